@@ -56,17 +56,25 @@ pub record FailsInRange (numbers : List ℕ) : Type 0 where
   pub from_one : All (λ n. 1 ≤ n) numbers
   pub most : All (λ n. n < 2 ^ 32) numbers
 
+-- at most 64 files
+pub record FilesInRange (files : List FilePlan) : Type 0 where
+  pub few : length files ≤ MAX_FILES
+  pub each : All FileInRange files
+
+-- 1 to 8 processors
+pub record CpusInRange (cpus : List CpuPlan) : Type 0 where
+  pub some : 1 ≤ length cpus
+  pub few : length cpus ≤ MAX_CPUS
+  pub each : All CpuInRange cpus
+
 pub record GuestInRange (plan : GuestPlan) : Type 0 where
   pub some_page : 1 ≤ plan.pages
   pub pages : plan.pages ≤ MAX_GUEST_PAGES
   pub swap : plan.swap ≤ MAX_TOTAL_BLOCKS
-  pub few_files : length plan.files ≤ MAX_FILES
-  pub files : All FileInRange plan.files
+  pub files : FilesInRange plan.files
   pub disk_fail : FailsInRange plan.disk_fail
   pub pager_fail : FailsInRange plan.pager_fail
-  pub some_cpu : 1 ≤ length plan.cpus
-  pub few_cpus : length plan.cpus ≤ MAX_CPUS
-  pub cpus : All CpuInRange plan.cpus
+  pub cpus : CpusInRange plan.cpus
 
 -- the pages of all files
 abbrev pub file_pages_of : List FilePlan → ℕ
@@ -75,6 +83,22 @@ file_pages_of files = sum_by (λ file. file.pages) files
 -- the blocks of a guest's disk: its file pages, and behind them its swap slots
 abbrev pub blocks_of : GuestPlan → ℕ
 blocks_of guest = file_pages_of guest.files + guest.swap
+
+-- the pages of all guests
+abbrev pub guest_pages_of : List GuestPlan → ℕ
+guest_pages_of guests = sum_by (λ guest. guest.pages) guests
+
+-- the blocks of all guests
+abbrev pub guest_blocks_of : List GuestPlan → ℕ
+guest_blocks_of guests = sum_by blocks_of guests
+
+-- 1 to 16 guests, within the totals
+pub record GuestsInRange (guests : List GuestPlan) : Type 0 where
+  pub some : 1 ≤ length guests
+  pub few : length guests ≤ MAX_GUESTS
+  pub each : All GuestInRange guests
+  pub pages_in_all : guest_pages_of guests ≤ MAX_TOTAL_PAGES
+  pub blocks_in_all : guest_blocks_of guests ≤ MAX_TOTAL_BLOCKS
 
 -- a guest's number, and something that this guest has
 abbrev pub GuestHas : List GuestPlan → ℕ → (GuestPlan → Type 0) → Type 0
@@ -92,10 +116,6 @@ pub record ScenarioInRange (plan : Scenario) : Type 0 where
   pub frames : plan.frames ≤ MAX_FRAMES
   pub reclaimers : plan.reclaimers ≤ MAX_RECLAIMERS
   pub pager_fail : FailsInRange plan.pager_fail
-  pub some_guest : 1 ≤ length plan.guests
-  pub few_guests : length plan.guests ≤ MAX_GUESTS
-  pub guests : All GuestInRange plan.guests
-  pub pages_in_all : sum_by (λ guest. guest.pages) plan.guests ≤ MAX_TOTAL_PAGES
-  pub blocks_in_all : sum_by blocks_of plan.guests ≤ MAX_TOTAL_BLOCKS
+  pub guests : GuestsInRange plan.guests
   pub few_events : length plan.schedule ≤ MAX_EVENTS
   pub schedule : All (EventInRange plan.guests) plan.schedule

@@ -1,4 +1,4 @@
-ghost use Rattle.std.specs.Prelude.{◌≡◌, ◌≤◌, ◌↔◌, length, IsSome, IfSome, IsOk};
+ghost use Rattle.std.specs.Prelude.{◌≡◌, ◌≤◌, ◌↔◌, [], length, IsTrue, IsSome, IfSome};
 
 use arrayvec::ArrayVec;
 use std::marker::Model;
@@ -42,6 +42,18 @@ impl Bytes64 {
         ensures short { length result.now ≤ 64 }
     {
         self.bytes.as_slice()
+    }
+
+    pub fn len(&self) -> usize
+        ensures { result ≡ length self.now }
+    {
+        self.bytes.len()
+    }
+
+    pub fn is_empty(&self) -> bool
+        ensures { IsTrue result ↔ (self.now ≡ []) }
+    {
+        self.bytes.is_empty()
     }
 
     /// The same bytes again. It takes no memory.

@@ -8,6 +8,7 @@ mod event;
 mod items;
 mod page;
 mod plan;
+mod range;
 mod turn;
 
 pub use bytes::{Bytes64, MAX_BYTES};
@@ -23,4 +24,5 @@ pub use plan::{
     MAX_FRAMES, MAX_GUEST_PAGES, MAX_GUESTS, MAX_LIVE_MAPPINGS, MAX_MAPPING_SLOTS, MAX_PROCESSES,
     MAX_RECLAIMERS, MAX_TOTAL_BLOCKS, MAX_TOTAL_PAGES, Scenario,
 };
+pub use range::file_pages;
 pub use turn::{Alone, Turn, Why};
