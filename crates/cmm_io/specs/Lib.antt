@@ -1,0 +1,5 @@
+pub mod Faults
+pub mod SourceBytes
+pub mod SinkBytes
+pub mod DiskCall
+pub mod DiskView

@@ -1,0 +1,13 @@
+//! The edges of the program: what it reads bytes from, what it writes bytes to, and a guest's disk, each with a
+//! count of its faults.
+#![tactic(auto)]
+
+mod disk;
+mod failed;
+mod sink;
+mod source;
+
+pub use disk::Disk;
+pub use failed::Failed;
+pub use sink::Sink;
+pub use source::Source;
