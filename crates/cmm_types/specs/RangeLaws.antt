@@ -1,10 +1,10 @@
 -- Bounds on the sums of plans within their ranges.
-use Rattle.std.specs.Prelude.{ℕ, ◌+◌, ◌*◌, ◌^◌, ◌<◌, ◌≤◌, List, length, sum_by, All}
+use Rattle.std.specs.Prelude.{◌^◌, ◌≤◌, List, length, All}
 use Rattle.std.proofs.Common.{arith}
 use Rattle.std.proofs.lemmas.List.Sums.{sum_by-le}
 use Rattle.cmm_types.specs.declared.plan.FilePlan.{FilePlan}
 use Rattle.cmm_types.specs.declared.plan.GuestPlan.{GuestPlan}
-use Rattle.cmm_types.specs.InRange.{FileInRange, FilesInRange, GuestInRange, file_pages_of, blocks_of, guest_pages_of, guest_blocks_of}
+use Rattle.cmm_types.specs.InRange.{FilesInRange, GuestInRange, file_pages_of, blocks_of, guest_pages_of, guest_blocks_of}
 
 -- 64 files of at most 1,024 pages
 pub file_pages_bound : (files : List FilePlan) → FilesInRange files → file_pages_of files ≤ 2 ^ 16

@@ -9,6 +9,8 @@ mod items;
 mod page;
 mod plan;
 mod range;
+#[cfg(test)]
+mod tests;
 mod turn;
 
 pub use bytes::{Bytes64, MAX_BYTES};
