@@ -1,0 +1,5 @@
+pub mod StorageCall
+pub mod StorageView
+pub mod Program
+pub mod Runs
+pub mod Views

@@ -1,0 +1,151 @@
+-- What a guest may know of its pages, and what each call does to it.
+use Rattle.std.specs.Prelude.{◌≡◌, ◌≢◌, ℕ, ◌+◌, ◌≤◌, List, [], ◌++◌, length, take, drop, replicate, Bool, true, false, Option, Some, None, Ok, Err}
+use Rattle.cmm_types.specs.declared.page.TheConstants.{PAGE}
+use Rattle.cmm_types.specs.declared.page.Usage.{Usage}
+use Rattle.cmm_types.specs.declared.page.Usage.TheVariants.{S, U, P, V}
+use Rattle.cmm_types.specs.declared.page.Content.TheVariants.{Resident}
+use Rattle.cmm_io.specs.Faults.{HasRisen}
+use Rattle.essa_state.specs.declared.fields.Fields.{Fields}
+use Rattle.essa_state.specs.declared.orders.Old.{Old}
+use Rattle.essa_state.specs.StateWord.{is_permitted, is_zero, number_of}
+use Rattle.essa_state.specs.PageValue.{PageValue, Contents, Bytes, Blank, Lost, IsValue, OrderStep, MayBecome, is_lost}
+use Rattle.cmm_storage.specs.declared.storage.Trap.TheVariants.{Discarded, Paging, NoFrame}
+use Rattle.cmm_storage.specs.StorageCall.{StorageCall, Take, Touch, Give, TakeChange, Fetch, Store, Put}
+
+-- the number of pages; for each page what the guest last left there or found there; the page that is held, and
+-- whether it was touched in this hold; how many calls of the pager failed; how many calls found a page busy or no
+-- frame; whether none ever does; and whether the storage tells contracts the bytes of its pages
+pub record StorageView : Type 0 where
+  pub pages : ℕ
+  pub values : ℕ → PageValue
+  pub held : Option ℕ
+  pub touched : Bool
+  pub faults : ℕ
+  pub misses : ℕ
+  pub quiet : Bool
+  pub tells : Bool
+
+-- the bytes, where they are told; nobody knows more of others than that there are some
+abbrev pub told : (tells : Bool) → List ℕ → List ℕ
+told true bytes = bytes
+told false bytes = []
+
+-- a page of zeros
+unfoldable pub zeros : List ℕ
+zeros = replicate PAGE 0
+
+-- the contents that a good touch leaves
+abbrev pub touched_contents : (tells : Bool) → Contents → Contents
+touched_contents tells (Bytes bytes) = Bytes bytes
+touched_contents tells Blank = Bytes (told tells zeros)
+touched_contents tells Lost = Lost
+
+-- the bytes of a page, as a guest reads them
+abbrev pub bytes_of : Contents → List ℕ
+bytes_of (Bytes bytes) = bytes
+bytes_of Blank = zeros
+bytes_of Lost = zeros
+
+abbrev pub has_bytes : Contents → Bool
+has_bytes (Bytes bytes) = true
+has_bytes Blank = false
+has_bytes Lost = false
+
+-- a whole page of bytes
+pub record IsWhole (contents : Contents) : Type 0 where
+  pub all : List ℕ
+  pub are : contents ≡ Bytes all
+  pub size : length all ≡ PAGE
+
+-- the old bytes with the new ones at an offset
+abbrev pub write_at : List ℕ → ℕ → List ℕ → List ℕ
+write_at old off new = take off old ++ new ++ drop (off + length new) old
+
+-- a store writes its bytes and sets the change bit
+abbrev pub stored_value : (tells : Bool) → PageValue → ℕ → List ℕ → PageValue
+stored_value tells value off new = record value { changed = true; contents = Bytes (told tells (write_at (bytes_of value.contents) off new)) }
+
+-- a page may be written while it is stable or potentially volatile
+abbrev pub can_store : Usage → Bool
+can_store S = true
+can_store U = false
+can_store P = true
+can_store V = false
+
+-- the word that a claim found, which somebody else's claim had made busy
+pub record IsBusyWord (raw : ℕ) : Type 0 where
+  pub word : Fields
+  pub permitted : is_permitted word ≡ true
+  pub written : number_of word ≡ raw
+  pub busy : word.busy ≡ true
+
+-- what an order answers of the page before it; a page that was touched in this hold is resident
+pub record IsOld (value : PageValue) (touched : Bool) (old : Old) : Type 0 where
+  pub usage : old.usage ≡ value.usage
+  pub zero : has_bytes value.contents ≡ false → is_zero old.content ≡ true
+  pub bytes : has_bytes value.contents ≡ true → is_zero old.content ≡ false
+  pub resident : touched ≡ true → old.content ≡ Resident
+
+-- what every call keeps. Another page than the one that the call names may change as the host may change it
+pub record Keeps (v : StorageView) (page : ℕ) (w : StorageView) : Type 0 where
+  pub pages : w.pages ≡ v.pages
+  pub others : (i : ℕ) → i ≢ page → MayBecome (v.values i) (w.values i)
+  pub faults : v.faults ≤ w.faults
+  pub misses : v.misses ≤ w.misses
+  pub quiet : w.quiet ≡ v.quiet
+  pub tells : w.tells ≡ v.tells
+
+-- a call that finds neither a busy page nor a want of frames misses nothing
+abbrev pub MissesNothing : StorageView → StorageView → Type 0
+MissesNothing v w = w.misses ≡ v.misses
+
+-- a call that misses, which a quiet storage never does
+pub record Misses (v w : StorageView) : Type 0 where
+  pub not_quiet : v.quiet ≡ false
+  pub risen : HasRisen v.misses w.misses
+
+-- over a quiet storage no other page changes
+abbrev pub IsStill : StorageView → ℕ → StorageView → Type 0
+IsStill v page w = v.quiet ≡ true → (i : ℕ) → i ≢ page → w.values i ≡ v.values i
+
+-- the page is held, and was or wasn't touched in this hold
+abbrev pub Holds : StorageView → ℕ → (touched : Bool) → Type 0
+Holds w page touched = (w.held ≡ Some page) × (w.touched ≡ touched)
+
+-- the page is held and has the value that it had
+abbrev pub HoldsSame : StorageView → ℕ → StorageView → Type 0
+HoldsSame v page w = Holds w page v.touched × (w.values page ≡ v.values page)
+
+-- what each call with its answer does. A touch on a page that is resident already succeeds, since a page stays
+-- resident while it is held.
+abbrev pub Follows : StorageView → StorageCall → StorageView → Type 0
+Follows v (Take page (Ok got)) w =
+    Keeps v page w × MissesNothing v w × IsStill v page w × Holds w page false
+    × MayBecome (v.values page) (w.values page) × IsValue (w.values page) × (v.quiet ≡ true → w.values page ≡ v.values page)
+Follows v (Take page (Err busy)) w =
+    Keeps v page w × Misses v w × IsBusyWord busy.word × (w.held ≡ None) × MayBecome (v.values page) (w.values page)
+Follows v (Touch page (Ok got)) w =
+    Keeps v page w × MissesNothing v w × Holds w page true × (is_lost (v.values page).contents ≡ false)
+    × (w.values page ≡ record (v.values page) { contents = touched_contents v.tells (v.values page).contents })
+    × (v.tells ≡ true → IsWhole (w.values page).contents)
+Follows v (Touch page (Err Discarded)) w =
+    Keeps v page w × MissesNothing v w × IsStill v page w × HoldsSame v page w × (is_lost (v.values page).contents ≡ true)
+Follows v (Touch page (Err Paging)) w =
+    Keeps v page w × MissesNothing v w × HoldsSame v page w × (is_lost (v.values page).contents ≡ false) × (v.touched ≡ false)
+    × HasRisen v.faults w.faults
+Follows v (Touch page (Err (NoFrame looks))) w =
+    Keeps v page w × Misses v w × HoldsSame v page w × (is_lost (v.values page).contents ≡ false) × (v.touched ≡ false)
+Follows v (Give page code old) w =
+    Keeps v page w × MissesNothing v w × IsStill v page w × Holds w page v.touched
+    × IsOld (v.values page) v.touched old × OrderStep (v.values page) code old.done (w.values page)
+Follows v (TakeChange page changed) w =
+    Keeps v page w × MissesNothing v w × IsStill v page w × Holds w page v.touched
+    × (changed ≡ (v.values page).changed) × (w.values page ≡ record (v.values page) { changed = false })
+Follows v (Fetch page off bytes) w =
+    Keeps v page w × MissesNothing v w × IsStill v page w × HoldsSame v page w
+    × (v.tells ≡ true → bytes ≡ take (length bytes) (drop off (bytes_of (v.values page).contents)))
+Follows v (Store page off bytes) w =
+    Keeps v page w × MissesNothing v w × IsStill v page w × Holds w page v.touched
+    × (w.values page ≡ stored_value v.tells (v.values page) off bytes)
+Follows v (Put page) w =
+    Keeps v page w × MissesNothing v w × IsStill v page w × (w.held ≡ None) × (w.values page ≡ v.values page)

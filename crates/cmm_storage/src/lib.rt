@@ -1,0 +1,7 @@
+//! A guest's pages, which its host may discard between two holds: the calls by which the guest reaches them, and
+//! programs of such calls and of calls of its disk, in which the guest's turns are written.
+#![tactic(auto)]
+
+mod storage;
+
+pub use storage::{Busy, Storage, Trap};
