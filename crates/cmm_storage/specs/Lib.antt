@@ -3,3 +3,4 @@ pub mod StorageView
 pub mod Program
 pub mod Runs
 pub mod Views
+pub mod NoisyState

@@ -4,7 +4,7 @@ use Rattle.std.proofs.Common.{subst, ap, sym, inl, inr, arith, ◌∙◌}
 use Rattle.std.proofs.lemmas.Bool.{cases_eq}
 use Rattle.cmm_io.specs.DiskCall.{DiskCall, Read, Write}
 use Rattle.cmm_io.specs.DiskView.{DiskView, DiskFollows, DiskKeeps}
-use Rattle.essa_state.specs.PageValue.{PageValue, MayBecome}
+use Rattle.essa_state.specs.PageValue.{MayBecome}
 use Rattle.essa_state.specs.PageValueLaws.{MayBecome-trans}
 use Rattle.cmm_storage.specs.declared.storage.Trap.TheVariants.{Discarded, Paging, NoFrame}
 use Rattle.cmm_storage.specs.StorageCall.{StorageCall, Take, Touch, Give, TakeChange, Fetch, Store, Put}

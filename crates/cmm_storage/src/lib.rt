@@ -2,6 +2,11 @@
 //! programs of such calls and of calls of its disk, in which the guest's turns are written.
 #![tactic(auto)]
 
+mod noisy;
+mod noisy_page;
 mod storage;
+#[cfg(test)]
+mod tests;
 
+pub use noisy::{Noise, NoisyStorage};
 pub use storage::{Busy, Storage, Trap};

@@ -1,0 +1,37 @@
+-- What calls make of the pages of a noisy storage.
+use Rattle.std.specs.Prelude.{◌≡◌, ◌<◌, ℕ, List, length, true, false, replicate, slice_index_or, slice_set}
+use Rattle.std.proofs.Common.{arith, ap, subst, inl, inr, ◌∙◌, get_or-set_other, get_or-set_same}
+use Rattle.std.proofs.Math.ListN.{length-set}
+use Rattle.std.proofs.lemmas.Bool.{cases_eq}
+use Rattle.cmm_types.specs.declared.page.TheConstants.{PAGE}
+use Rattle.cmm_types.specs.declared.page.Content.TheVariants.{Zero, Resident}
+use Rattle.essa_state.specs.declared.fields.Fields.{Fields}
+use Rattle.essa_state.specs.PageValue.{PageValue, IsValue, is_lost}
+use Rattle.cmm_storage.specs.StorageView.{has_bytes, touched_contents, zeros}
+use Rattle.cmm_storage.specs.NoisyState.{NoisyState, IsSound, noisy_value, opening_value}
+
+pub filled_value : (w w' : Fields) (bytes bytes' : List ℕ) → w.content ≡ Zero → is_lost (noisy_value w bytes).contents ≡ false →
+    w' ≡ record w { content = Resident } → bytes' ≡ zeros →
+    noisy_value w' bytes' ≡ record (noisy_value w bytes) { contents = touched_contents true (noisy_value w bytes).contents }
+filled_value w w' bytes bytes' zero kept word filled = grind arith
+
+pub zeros_filled : (bytes : List ℕ) (count : ℕ) → bytes ≡ replicate count 0 → count ≡ PAGE → bytes ≡ zeros
+unfolding zeros
+zeros_filled bytes count filled whole = filled ∙ ap (λ n. replicate n 0) whole
+
+-- a noisy storage with another value of one page, which has its bytes or not as before
+pub set_sound : (s : NoisyState) (page : ℕ) (new : PageValue) → IsSound s → page < length s.pages → IsValue new →
+    has_bytes new.contents ≡ has_bytes (slice_index_or s.pages page opening_value).contents →
+    IsSound (record s { pages = slice_set s.pages page new })
+set_sound s page new sound below value same = record {
+  few = simp length-set sound.few;
+  below = λ k held. simp length-set (sound.below k held);
+  bytes = λ k held touched. elim (cases_eq k page) [
+    | inl e ↦ rw (e, get_or-set_same s.pages page new opening_value below, same) (subst (λ (i : ℕ). has_bytes (slice_index_or s.pages i opening_value).contents ≡ true) e (sound.bytes k held touched))
+    | inr other ↦ rw get_or-set_other (sound.bytes k held touched)
+  ];
+  values = λ k. elim (cases_eq k page) [
+    | inl e ↦ rw (e, get_or-set_same s.pages page new opening_value below) value
+    | inr other ↦ rw get_or-set_other (sound.values k)
+  ];
+}

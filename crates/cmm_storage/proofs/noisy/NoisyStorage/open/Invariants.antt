@@ -1,0 +1,6 @@
+use Rattle.std.proofs.Common.{◌≡◌, replicate}
+use Rattle.cmm_storage.specs.NoisyState.{opening_value}
+use Rattle.cmm_storage.proofs.noisy.NoisyStorage.open.Given as goal
+
+abbrev pub invariant-loop : goal.invariant-loop
+invariant-loop l = l.all.items ≡ replicate l.counter opening_value

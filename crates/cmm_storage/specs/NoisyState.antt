@@ -1,0 +1,44 @@
+-- The pages of a noisy storage, as contracts see them.
+use Rattle.std.specs.Prelude.{◌≡◌, ◌<◌, ◌^◌, ℕ, List, [], length, Bool, true, false, Option, Some, None, replicate, slice_index_or}
+use Rattle.cmm_types.specs.declared.page.Usage.TheVariants.{U}
+use Rattle.essa_state.specs.declared.fields.Fields.{Fields}
+use Rattle.essa_state.specs.PageValue.{PageValue, Blank, IsValue}
+use Rattle.essa_state.specs.PageBody.{actual}
+use Rattle.cmm_storage.specs.StorageView.{StorageView, has_bytes}
+
+-- a page has a frame of its own, whatever its word says
+abbrev pub noisy_value : Fields → List ℕ → PageValue
+noisy_value word bytes = actual word (record { frame = Some bytes; block = [] })
+
+pub record NoisyState : Type 0 where
+  pub pages : List PageValue
+  pub held : Option ℕ
+  pub touched : Bool
+  pub faults : ℕ
+  pub misses : ℕ
+
+-- unused, without contents, and never discarded
+abbrev pub opening_value : PageValue
+opening_value = record { usage = U; changed = false; contents = Blank; count = 0 }
+
+abbrev pub noisy_opening : ℕ → NoisyState
+noisy_opening count = record { pages = replicate count opening_value; held = None; touched = false; faults = 0; misses = 0 }
+
+abbrev pub noisy_view : NoisyState → StorageView
+noisy_view s = record {
+  pages = length s.pages;
+  values = λ page. slice_index_or s.pages page opening_value;
+  held = s.held;
+  touched = s.touched;
+  faults = s.faults;
+  misses = s.misses;
+  quiet = false;
+  tells = true;
+}
+
+-- the held page is one of the pages, and has its bytes while it is touched; every page's value is one
+pub record IsSound (s : NoisyState) : Type 0 where
+  pub few : length s.pages < 2 ^ 32
+  pub below : (page : ℕ) → s.held ≡ Some page → page < length s.pages
+  pub bytes : (page : ℕ) → s.held ≡ Some page → s.touched ≡ true → has_bytes (slice_index_or s.pages page opening_value).contents ≡ true
+  pub values : (page : ℕ) → IsValue (slice_index_or s.pages page opening_value)
