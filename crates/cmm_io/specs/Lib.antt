@@ -3,3 +3,7 @@ pub mod SourceBytes
 pub mod SinkBytes
 pub mod DiskCall
 pub mod DiskView
+pub mod FailurePlan
+pub mod MemoryStates
+pub mod DiskOf
+pub mod DiskState

@@ -4,10 +4,12 @@
 
 mod disk;
 mod failed;
+mod failures;
 mod sink;
 mod source;
 
 pub use disk::Disk;
 pub use failed::Failed;
+pub use failures::PlannedFailures;
 pub use sink::Sink;
 pub use source::Source;
