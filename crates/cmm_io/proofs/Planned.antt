@@ -17,7 +17,7 @@ use Rattle.cmm_io.specs.FailurePlan.{in_order, is_in}
 pub in_order-permutation : (xs ys : List ℕ) → IsPermutation xs ys → in_order ys ≡ in_order xs
 in_order-permutation xs ys p =
     ap set.items (same_set nat_cmp_total nat_cmp-IsAntisymmetric _ _ (λ q.
-      contains-from_list_nat ys q ∙ sym (list_any-IsPermutation _ xs ys p) ∙ sym (contains-from_list_nat xs q)))
+    contains-from_list_nat ys q ∙ sym (list_any-IsPermutation _ xs ys p) ∙ sym (contains-from_list_nat xs q)))
 
 -- the test is symmetric
 flipped : (q : ℕ) → (xs : List ℕ) → list_any (eq_by_cmp nat_cmp q) xs ≡ is_in xs q

@@ -6,4 +6,5 @@ pub mod DiskView
 pub mod FailurePlan
 pub mod MemoryStates
 pub mod DiskOf
+pub mod Padded
 pub mod DiskState

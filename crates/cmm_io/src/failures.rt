@@ -1,4 +1,4 @@
-ghost use Rattle.std.specs.Prelude.{◌≡◌, IfOk};
+ghost use Rattle.std.specs.Prelude.{◌≡◌, ◌≤◌, IfOk};
 ghost use Rattle.cmm_io.specs.FailurePlan.{is_in, plan_of, fails_next, after_call, after_next};
 
 use std::alloc::{AllocError, Global};
@@ -77,7 +77,8 @@ impl PlannedFailures {
 
     /// Counts a call, and whether it failed.
     pub fn count(&mut self, failed: bool)
-        ensures { self.new ≡ after_call self.old failed }
+        ensures counts { self.new ≡ after_call self.old failed }
+        ensures never_falls { self.old.faults ≤ self.new.faults }
     {
         self.calls = self.calls.saturating_add(1);
         if failed {
@@ -89,6 +90,7 @@ impl PlannedFailures {
     pub fn next(&mut self) -> bool
         ensures fails { result ≡ fails_next self.old }
         ensures counts { self.new ≡ after_next self.old }
+        ensures never_falls { self.old.faults ≤ self.new.faults }
     {
         let fails = self.fails_next();
         self.count(fails);

@@ -5,11 +5,15 @@
 mod disk;
 mod failed;
 mod failures;
+mod mem_disk;
+mod memory;
 mod sink;
 mod source;
 
 pub use disk::Disk;
 pub use failed::Failed;
 pub use failures::PlannedFailures;
+pub use mem_disk::MemDisk;
+pub use memory::{MemSink, MemSource};
 pub use sink::Sink;
 pub use source::Source;
