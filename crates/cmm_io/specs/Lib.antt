@@ -1,6 +1,7 @@
 pub mod Faults
 pub mod SourceBytes
 pub mod SinkBytes
+pub mod SinkBytesLaws
 pub mod DiskCall
 pub mod DiskView
 pub mod FailurePlan

@@ -2,9 +2,10 @@
 use Rattle.std.specs.Prelude.{ℕ, ◌+◌, List, Bool, ◌||◌, nat_lt, length, min}
 use Rattle.cmm_io.specs.FailurePlan.{FailurePlan, fails_next}
 
--- the bytes that are left, how many a read gives at most, and which reads fail
+-- the bytes that are left, how many were given, how many a read gives at most, and which reads fail
 pub record SourceState : Type 0 where
   pub rest : List ℕ
+  pub given : ℕ
   pub piece : ℕ
   pub failures : FailurePlan
 

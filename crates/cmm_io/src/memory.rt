@@ -1,5 +1,6 @@
 ghost use Rattle.std.specs.Prelude.{◌≡◌, ◌≤◌, ◌<◌, ◌++◌, ◌↔◌, [], length, take, drop, IfOk, IfErr, IsErr, IsTrue};
 ghost use Rattle.cmm_io.specs.FailurePlan.{plan_of, fails_next, after_next, after_call};
+ghost use Rattle.cmm_io.specs.SourceBytes.{given_after};
 ghost use Rattle.cmm_io.specs.MemoryStates.{read_length, write_fails};
 
 use crate::failed::Failed;
@@ -24,7 +25,7 @@ impl Model for MemSource {
 
     ghost Value = { SourceState };
 
-    ghost view = { λ s. record { rest = drop s.taken s.bytes.items; piece = s.piece; failures = s.failures } };
+    ghost view = { λ s. record { rest = drop s.taken s.bytes.items; given = s.taken; piece = s.piece; failures = s.failures } };
 
     ghost invariant = { λ s. (s.taken ≤ length s.bytes.items) × (1 ≤ s.piece) };
 }
@@ -34,6 +35,7 @@ impl MemSource {
     pub fn new(bytes: Vec<u8>, piece: usize, fails: Vec<u32>) -> MemSource
         requires { 1 ≤ piece }
         ensures rest { result.rest ≡ bytes.items }
+        ensures given { result.given ≡ 0 }
         ensures piece { result.piece ≡ piece }
         ensures planned { result.failures ≡ plan_of fails.items }
     {
@@ -53,6 +55,8 @@ impl Source for MemSource {
 
     ghost rest = { λ s. Some s.rest };
 
+    ghost given = { λ s. s.given };
+
     fn faults(&self) -> u64 {
         self.failures.faults()
     }
@@ -62,6 +66,7 @@ impl Source for MemSource {
         ensures bytes { IfOk result (λ n. take n buf.new ≡ take n self.old.rest) }
         ensures rest { IfOk result (λ n. self.new.rest ≡ drop n self.old.rest) }
         ensures end { IfOk result (λ n. n ≡ 0 → 0 < length buf.old → self.old.rest ≡ []) }
+        ensures given { IfOk result (λ n. self.new.given ≡ given_after self.old.given n) }
         ensures same_piece { self.new.piece ≡ self.old.piece }
         ensures planned { IsErr result ↔ IsTrue (fails_next self.old.failures) }
         ensures counts { self.new.failures ≡ after_next self.old.failures }
