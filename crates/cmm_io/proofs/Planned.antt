@@ -1,4 +1,4 @@
-use Rattle.std.proofs.Common.{◌≡◌, ◌∙◌, ℕ, ◌<◌, ◌≤◌, List, length, get_or, Bool, true, false, Result, Ok, Err, refl, sym, ap, IsPermutation, MatchResult, is_ok, ⊎_elim, arith}
+use Rattle.std.proofs.Common.{◌≡◌, ◌∙◌, ℕ, ◌<◌, ◌≤◌, List, length, get_or, true, false, Result, Ok, Err, refl, sym, ap, IsPermutation, MatchResult, is_ok, ⊎_elim, arith}
 use mathlib.Core.Path.{fun_ext}
 use Rattle.std.specs.Bool.{◌==◌}
 use Rattle.std.specs.Ordering.{nat_cmp, eq_by_cmp}

@@ -1,10 +1,8 @@
 -- What the loops of `read_all` and `write_all` keep.
-use Rattle.std.proofs.Common.{◌≡◌, ◌∙◌, ℕ, ◌+◌, ◌-◌, ◌^◌, ◌<◌, ◌≤◌, min, List, [], ◌++◌, length, take, drop, Option, Some, None, refl, sym, ap, append_assoc, subst, arith}
-use Rattle.std.proofs.Math.Seq.{take-append-add}
-use Rattle.std.proofs.lemmas.List.{take-append-drop, drop-take, take-take, append-nil, length-append, length-take, length-drop, take_all, drop-drop}
-use Rattle.cmm_io.specs.Faults.{HasRisen, raised}
-use Rattle.cmm_io.specs.SourceBytes.{Gives, IsAtEnd, IsWhole, IsLonger, given_after}
-use Rattle.cmm_io.specs.SinkBytes.{behind, WrotePrefix}
+use Rattle.std.proofs.Common.{◌≡◌, ◌∙◌, ℕ, ◌+◌, ◌<◌, List, [], ◌++◌, length, take, drop, Option, Some, None, refl, sym, ap, append_assoc, subst, arith}
+use Rattle.std.proofs.lemmas.List.{take-append-drop, drop-take, take-take, append-nil, length-append}
+use Rattle.cmm_io.specs.SourceBytes.{Gives, IsAtEnd, IsWhole, IsLonger}
+use Rattle.cmm_io.specs.SinkBytes.{behind}
 use Rattle.cmm_io.specs.SinkBytesLaws.{behind-behind}
 
 -- these bytes were taken from the front of the rest

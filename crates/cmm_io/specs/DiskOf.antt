@@ -1,5 +1,5 @@
 -- The blocks of a guest's disk: the pages of each file in order, and behind them the swap slots, which are zeros.
-use Rattle.std.specs.Prelude.{ℕ, ◌+◌, ◌-◌, ◌*◌, List, ◌++◌, length, map, take, drop, replicate}
+use Rattle.std.specs.Prelude.{ℕ, ◌-◌, ◌*◌, List, ◌++◌, length, map, take, drop, replicate}
 use Rattle.std.specs.List.{flat_map, range_with_len}
 use Rattle.cmm_types.specs.declared.page.TheConstants.{PAGE}
 use Rattle.cmm_types.specs.declared.plan.FilePlan.{FilePlan}

@@ -1,6 +1,6 @@
 -- How pieces that are written one after another come together.
-use Rattle.std.specs.Prelude.{◌≡◌, ℕ, ◌+◌, ◌≤◌, List, [], ◌++◌, length, take, drop, Option, Some, None, refl}
-use Rattle.std.proofs.Common.{◌∙◌, sym, ap, append_assoc, append-nil, length-append, subst, arith}
+use Rattle.std.specs.Prelude.{◌≡◌, ℕ, ◌+◌, ◌≤◌, List, [], ◌++◌, length, take, Option, Some, None, refl}
+use Rattle.std.proofs.Common.{◌∙◌, sym, ap, append_assoc, append-nil, length-append, arith}
 use Rattle.std.proofs.Math.Seq.{take-append-add}
 use Rattle.std.proofs.lemmas.List.{take-append-le}
 use Rattle.cmm_io.specs.SinkBytes.{behind, WrotePrefix}

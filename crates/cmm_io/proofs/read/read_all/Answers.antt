@@ -1,5 +1,5 @@
-use Rattle.std.proofs.Common.{arith, ap, ◌∙◌, vec_len, ◌≡◌, ◌+◌, ◌≤◌}
-use Rattle.cmm_io.proofs.Progress.{Took-nothing, Took-more, whole_at_end, still_at_end, longer}
+use Rattle.std.proofs.Common.{arith, vec_len, ◌≡◌}
+use Rattle.cmm_io.proofs.Progress.{Took-nothing}
 use Rattle.cmm_io.proofs.read.read_all.Goals as goal
 
 pub loop-piece-init : goal.loop-piece-init

@@ -1,4 +1,4 @@
-use Rattle.std.proofs.Common.{◌≡◌, ◌≤◌, ◌+◌, ◌-◌, ℕ, vec_len}
+use Rattle.std.proofs.Common.{◌≡◌, ◌≤◌, ◌+◌, ◌-◌, vec_len}
 use Rattle.cmm_io.specs.SourceBytes.{given_after}
 use Rattle.cmm_io.proofs.Progress.{Took}
 use Rattle.cmm_io.proofs.read.read_all.Given as goal

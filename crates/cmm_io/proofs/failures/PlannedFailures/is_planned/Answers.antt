@@ -1,8 +1,8 @@
-use Rattle.std.proofs.Common.{◌≡◌, ◌∙◌, ap, sym, rules}
+use Rattle.std.proofs.Common.{◌∙◌, ap, sym, rules}
 use Rattle.std.specs.Ordering.{nat_cmp}
 use Rattle.std.proofs.lemmas.List.Sorted.{searched}
 use Rattle.std.proofs.lemmas.Fn.{always_returns_same}
-use Rattle.cmm_io.specs.FailurePlan.{in_order, is_in}
+use Rattle.cmm_io.specs.FailurePlan.{is_in}
 use Rattle.cmm_io.proofs.Planned.{is_in-in_order, is_in-searched}
 use Rattle.cmm_io.proofs.failures.PlannedFailures.is_planned.Goals as goal
 

@@ -1,6 +1,5 @@
 use Rattle.std.proofs.Common.{ap}
 use Rattle.std.proofs.lemmas.List.Sorted.{IsNonDecreasingBy-from_sort}
-use Rattle.cmm_io.specs.FailurePlan.{FailurePlan}
 use Rattle.cmm_io.proofs.Planned.{in_order-permutation}
 use Rattle.cmm_io.proofs.failures.PlannedFailures.new.Goals as goal
 

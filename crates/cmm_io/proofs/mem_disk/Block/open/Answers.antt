@@ -1,4 +1,4 @@
-use Rattle.std.proofs.Common.{◌≡◌, ◌∙◌, ap, ◌++◌, arith}
+use Rattle.std.proofs.Common.{◌∙◌, ap, ◌++◌, arith}
 use Rattle.cmm_io.proofs.Pages.{filled}
 use Rattle.cmm_io.proofs.mem_disk.Block.open.Goals as goal
 
