@@ -1,5 +1,11 @@
 pub mod Faults
 pub mod SourceBytes
 pub mod SinkBytes
+pub mod SinkBytesLaws
 pub mod DiskCall
 pub mod DiskView
+pub mod FailurePlan
+pub mod MemoryStates
+pub mod DiskOf
+pub mod Padded
+pub mod DiskState

@@ -4,10 +4,25 @@
 
 mod disk;
 mod failed;
+mod failures;
+mod mem_disk;
+mod memory;
+mod read;
 mod sink;
 mod source;
+mod standard;
+mod write;
 
 pub use disk::Disk;
 pub use failed::Failed;
+pub use failures::PlannedFailures;
+pub use mem_disk::MemDisk;
+pub use memory::{MemSink, MemSource};
+pub use read::{ReadError, read_all};
 pub use sink::Sink;
 pub use source::Source;
+pub use standard::{StdSink, StdSource};
+pub use write::{WriteFault, write_all};
+
+#[cfg(test)]
+mod tests;

@@ -1,0 +1,7 @@
+use Rattle.std.proofs.Common.{◌≡◌, ◌++◌, map}
+use Rattle.std.specs.List.{range_with_len}
+use Rattle.cmm_io.specs.DiskOf.{page_at, file_bytes}
+use Rattle.cmm_io.proofs.mem_disk.add_file.Given as goal
+
+abbrev pub invariant-loop-index : goal.invariant-loop-index
+invariant-loop-index l = l.blocks.items ≡ l.fn.blocks.items ++ map (page_at (file_bytes l.file)) (range_with_len 0 l.index)
