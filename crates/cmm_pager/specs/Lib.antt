@@ -1,0 +1,3 @@
+pub mod PagerCall
+pub mod PagerFollows
+pub mod PagerStep
