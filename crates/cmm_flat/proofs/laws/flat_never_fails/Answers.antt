@@ -1,0 +1,5 @@
+use Rattle.cmm_flat.specs.FlatLaws.{never_fails}
+use Rattle.cmm_flat.proofs.laws.flat_never_fails.Goals as goal
+
+pub returns : goal.returns
+returns c = never_fails

@@ -1,0 +1,64 @@
+ghost use Rattle.std.specs.Prelude.{◌≡◌, ◌<◌, ◌≤◌, length};
+ghost use Rattle.cmm_flat.specs.Mapping.{HasRoom, length_of, written, with_pin};
+
+use crate::contents::Contents;
+use crate::pins::Pins;
+use cmm_types::PAGE;
+
+/// Where a mapping is: its process, and its number there.
+#[derive(Clone, Copy, Debug, PartialEq, Eq, PartialOrd, Ord)]
+pub struct Place {
+    pub process: u32,
+    pub map: u32,
+}
+
+/// What a mapping shows.
+#[derive(Debug, Drop)]
+pub enum Shown {
+    /// Pages of a file, from page `first` on.
+    OfFile {
+        file: u32,
+        first: u32,
+        writable: bool,
+    },
+    /// Bytes of its own.
+    Anonymous {
+        bytes: Contents,
+    },
+}
+
+/// A live mapping: what it shows, and for each of its pages whether it is pinned.
+#[derive(Debug, Drop)]
+pub struct Mapping {
+    pub shown: Shown,
+    pub pins: Pins,
+}
+
+impl Mapping {
+    /// Its pages in bytes.
+    pub fn len(&self) -> usize
+        requires { length self.now.pins ≤ 1024 }
+        ensures { result ≡ length_of self.now }
+    {
+        PAGE * self.pins.len()
+    }
+
+    /// Puts bytes into the place of its own from `off` on, if it has bytes of its own.
+    pub fn write(&mut self, off: usize, bytes: &[u8])
+        requires { HasRoom self.old.shown off (length bytes.now) }
+        ensures { self.new ≡ written self.old off bytes.now }
+    {
+        match &mut self.shown {
+            Shown::Anonymous { bytes: own } => own.write(off, bytes),
+            Shown::OfFile { .. } => {}
+        }
+    }
+
+    /// Pins a page, or unpins it.
+    pub fn set_pin(&mut self, page: usize, pin: bool)
+        requires { page < length self.old.pins }
+        ensures { self.new ≡ with_pin self.old page pin }
+    {
+        self.pins.set(page, pin);
+    }
+}

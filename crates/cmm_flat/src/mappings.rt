@@ -1,0 +1,98 @@
+ghost use Rattle.std.specs.Prelude.{◌≡◌, ◌≤◌, ◌<◌, ◌+◌, ◌^◌, length, IfOk, OnOk, OnErr, OnSome, is_some, Some, None, false};
+ghost use Rattle.std.specs.Option.{option_copied, ForSome};
+ghost use Rattle.std.specs.FinMap as finite;
+ghost use Rattle.cmm_flat.specs.Mapping.{place_cmp, HasRoom, written, with_pin};
+
+use crate::NoMemory;
+use crate::mapping::{Mapping, Place};
+use std::alloc::Global;
+use std::collections::BTreeMap;
+use std::marker::Model;
+
+/// The live mappings by place. Contracts see a finite map.
+#[derive(Debug, Drop)]
+pub struct Mappings {
+    live: BTreeMap<Place, Mapping>,
+    count: usize,
+}
+
+impl Model for Mappings {
+    ghost use Rattle.std.specs.Prelude.{◌≡◌};
+    ghost use Rattle.std.specs.FinMap as finite;
+    ghost use Rattle.cmm_flat.specs.declared.mapping.Mapping.{Mapping};
+    ghost use Rattle.cmm_flat.specs.Mapping.{place_cmp, coded_place, coded_mapping};
+
+    ghost Value = { finite.FinMap place_cmp Mapping };
+
+    ghost coded = { finite.code coded_place coded_mapping };
+
+    ghost view = { λ m. finite.from_entries m.live.entries };
+
+    ghost invariant = { λ m. m.count ≡ finite.len (finite.from_entries {R = place_cmp} m.live.entries) };
+}
+
+impl Mappings {
+    pub fn new(alloc: Global) -> Mappings
+        ensures { result ≡ finite.empty }
+    {
+        Mappings {
+            live: BTreeMap::new(alloc),
+            count: 0,
+        }
+    }
+
+    pub fn len(&self) -> usize
+        ensures { result ≡ finite.len self.now }
+    {
+        self.count
+    }
+
+    pub fn get(&self, place: Place) -> Option<&Mapping>
+        ensures { option_copied result ≡ finite.get self.now place }
+    {
+        self.live.get(&place)
+    }
+
+    /// Adds a mapping at a place that has none.
+    pub fn insert(&mut self, place: Place, mapping: Mapping) -> Result<(), NoMemory>
+        requires new { finite.contains_key self.old place ≡ false }
+        requires few { finite.len self.old < 256 }
+        ensures ok { OnOk result (self.new ≡ finite.insert self.old place mapping) }
+        ensures err { OnErr result (self.new ≡ self.old) }
+    {
+        self.live.insert(place, mapping)?;
+        self.count += 1;
+        Ok(())
+    }
+
+    /// Removes the mapping at a place.
+    pub fn remove(&mut self, place: Place)
+        ensures { self.new ≡ finite.remove self.old place }
+    {
+        if self.live.remove(&place).is_some() {
+            self.count -= 1;
+        }
+    }
+
+    /// Puts bytes into the place of a mapping's own from `off` on.
+    pub fn write(&mut self, place: Place, off: usize, bytes: &[u8])
+        requires { ForSome (finite.get self.old place) (λ mapping. HasRoom mapping.shown off (length bytes.now)) }
+        ensures { ForSome (finite.get self.old place) (λ mapping. self.new ≡ finite.insert self.old place (written mapping off bytes.now)) }
+    {
+        let Some(mapping) = self.live.get_mut(&place) else {
+            return;
+        };
+        mapping.write(off, bytes);
+    }
+
+    /// Pins a page of a mapping, or unpins it.
+    pub fn set_pin(&mut self, place: Place, page: usize, pin: bool)
+        requires { ForSome (finite.get self.old place) (λ mapping. page < length mapping.pins) }
+        ensures { ForSome (finite.get self.old place) (λ mapping. self.new ≡ finite.insert self.old place (with_pin mapping page pin)) }
+    {
+        let Some(mapping) = self.live.get_mut(&place) else {
+            return;
+        };
+        mapping.set_pin(page, pin);
+    }
+}
