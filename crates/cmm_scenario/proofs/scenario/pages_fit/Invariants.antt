@@ -1,0 +1,5 @@
+use Rattle.std.proofs.Common.{◌≡◌, ◌+◌, take, sum_by}
+use Rattle.cmm_scenario.proofs.scenario.pages_fit.Given as goal
+
+abbrev pub invariant-loop-guest : goal.invariant-loop-guest
+invariant-loop-guest l = l.left + sum_by (λ guest. guest.pages) (take l.guest-index l.guests) ≡ 65536

@@ -1,0 +1,10 @@
+pub mod Outcome
+pub mod Words
+pub mod Commands
+pub mod Events
+pub mod Paths
+pub mod Faults
+pub mod Tree
+pub mod Lent
+pub mod Plans
+pub mod Scenario
