@@ -1,13 +1,13 @@
 -- A plan that is read is in all its ranges.
 use Rattle.std.proofs.Common.{ℕ, ◌*◌, ◌≤◌, List, [], ◌∷◌, length, Option, Some, None, Result, Ok, Err, subst, arith}
-use Rattle.std.specs.Prelude.{◌&&◌, nat_le, sum_by, All, codes, IfOk}
+use Rattle.std.specs.Prelude.{◌&&◌, nat_le, sum_by, codes, IfOk}
 use Rattle.std.proofs.lemmas.Bool.{leb-true}
 use Rattle.hex.specs.Hex.{decode_of}
 use Rattle.serde_json.specs.Data.{Data}
 use Rattle.cmm_types.specs.declared.page.TheConstants.{PAGE}
 use Rattle.cmm_types.specs.declared.plan.GuestPlan.{GuestPlan}
 use Rattle.cmm_types.specs.declared.plan.Scenario.{Scenario}
-use Rattle.cmm_types.specs.InRange.{OpInRange, EventInRange, FileInRange, CpuInRange, FailsInRange, GuestInRange, ScenarioInRange, blocks_of}
+use Rattle.cmm_types.specs.InRange.{OpInRange, EventInRange, FileInRange, CpuInRange, FailsInRange, GuestInRange, GuestsInRange, ScenarioInRange, blocks_of}
 use Rattle.cmm_scenario.specs.declared.fault.Kind.TheVariants.{Range, Hex, Total}
 use Rattle.cmm_scenario.specs.declared.error.ScenarioError.{ScenarioError}
 use Rattle.cmm_scenario.specs.Words.{or_fault}
@@ -68,15 +68,7 @@ guest-given tree =
     given_next FailsInRange GuestInRange (member_or (codes "disk_fail") [] fails_of tree) _ (member_or-given FailsInRange (codes "disk_fail") [] fails_of tree no_fails fails-given) (λ disk_fail d.
     given_next FailsInRange GuestInRange (member_or (codes "pager_fail") [] fails_of tree) _ (member_or-given FailsInRange (codes "pager_fail") [] fails_of tree no_fails fails-given) (λ pager_fail g.
     given_next (IsList CpuInRange 1 8) GuestInRange (member_of (codes "cpus") (list_of 1 8 cpu_of) tree) _ (member-given (IsList CpuInRange 1 8) (codes "cpus") (list_of 1 8 cpu_of) tree (list-given CpuInRange 1 8 cpu_of cpu-given)) (λ cpus c.
-    record { some_page = p.0; pages = p.1; swap = s.1; few_files = f.few; files = f.each; disk_fail = d; pager_fail = g; some_cpu = c.some; few_cpus = c.few; cpus = c.each })))))))
-
--- guests in their ranges and totals
-record AreGuests (guests : List GuestPlan) : Type 0 where
-  some : 1 ≤ length guests
-  few : length guests ≤ 16
-  each : All GuestInRange guests
-  pages : sum_by (λ guest. guest.pages) guests ≤ 65536
-  blocks : sum_by blocks_of guests ≤ 65536
+    record { some_page = p.0; pages = p.1; swap = s.1; files = record { few = f.few; each = f.each }; disk_fail = d; pager_fail = g; cpus = record { some = c.some; few = c.few; each = c.each } })))))))
 
 abbrev InTotals : List GuestPlan → Unit {0} → Type 0
 InTotals guests _ = (sum_by (λ guest. guest.pages) guests ≤ 65536) × (sum_by blocks_of guests ≤ 65536)
@@ -88,12 +80,12 @@ totals-given guests =
     let blocks = sum_by blocks_of guests in
     given_checked (InTotals guests) (nat_le pages 65536 && nat_le blocks 65536) tt Total (λ t. (leb-true pages 65536 (and_first (nat_le pages 65536) (nat_le blocks 65536) t), leb-true blocks 65536 (and_second (nat_le pages 65536) (nat_le blocks 65536) t)))
 
-guests-given : Reads AreGuests guests_of
+guests-given : Reads GuestsInRange guests_of
 unfolding guests_of
 guests-given tree =
-    given_next (IsList GuestInRange 1 16) AreGuests (member_of (codes "guests") (list_of 1 16 guest_of) tree) _ (member-given (IsList GuestInRange 1 16) (codes "guests") (list_of 1 16 guest_of) tree (list-given GuestInRange 1 16 guest_of guest-given)) (λ guests g.
-    given_next (InTotals guests) AreGuests (inside (codes "guests") (here (totals_of guests))) _ (inside-given (InTotals guests) (codes "guests") (here (totals_of guests)) (here-given (InTotals guests) (totals_of guests) (totals-given guests))) (λ _ t.
-    record { some = g.some; few = g.few; each = g.each; pages = t.0; blocks = t.1 }))
+    given_next (IsList GuestInRange 1 16) GuestsInRange (member_of (codes "guests") (list_of 1 16 guest_of) tree) _ (member-given (IsList GuestInRange 1 16) (codes "guests") (list_of 1 16 guest_of) tree (list-given GuestInRange 1 16 guest_of guest-given)) (λ guests g.
+    given_next (InTotals guests) GuestsInRange (inside (codes "guests") (here (totals_of guests))) _ (inside-given (InTotals guests) (codes "guests") (here (totals_of guests)) (here-given (InTotals guests) (totals_of guests) (totals-given guests))) (λ _ t.
+    record { some = g.some; few = g.few; each = g.each; pages_in_all = t.0; blocks_in_all = t.1 }))
 
 schedule_event-given : (guests : List GuestPlan) (tree : Data) → Given (EventInRange guests) (schedule_event_of guests tree)
 unfolding schedule_event_of
@@ -116,9 +108,9 @@ plan-given tree =
     given_next (Between 1 65536) ScenarioInRange (member_of (codes "frames") (number 1 65536) tree) _ (member-given (Between 1 65536) (codes "frames") (number 1 65536) tree (number-given 1 65536)) (λ frames f.
     given_next FailsInRange ScenarioInRange (member_or (codes "pager_fail") [] fails_of tree) _ (member_or-given FailsInRange (codes "pager_fail") [] fails_of tree no_fails fails-given) (λ pager_fail p.
     given_next (Between 0 8) ScenarioInRange (member_or (codes "reclaimers") 0 (number 0 8) tree) _ (member_or-given (Between 0 8) (codes "reclaimers") 0 (number 0 8) tree (omega arith, omega arith) (number-given 0 8)) (λ reclaimers r.
-    given_next AreGuests ScenarioInRange (guests_of tree) _ (guests-given tree) (λ guests g.
+    given_next GuestsInRange ScenarioInRange (guests_of tree) _ (guests-given tree) (λ guests g.
     given_next (IsList (EventInRange guests) 0 1000000) ScenarioInRange (schedule_of guests tree) _ (schedule-given guests tree) (λ schedule s.
-    record { some_frame = f.0; frames = f.1; reclaimers = r.1; pager_fail = p; some_guest = g.some; few_guests = g.few; guests = g.each; pages_in_all = g.pages; blocks_in_all = g.blocks; few_events = s.few; schedule = s.each })))))))
+    record { some_frame = f.0; frames = f.1; reclaimers = r.1; pager_fail = p; guests = g; few_events = s.few; schedule = s.each })))))))
 
 at_root-given : {A : Type 0} (P : A → Type 0) (r : Result A ScenarioError) → Given P r → Given P (at_root r)
 at_root-given P (Ok x) h = h

@@ -96,7 +96,8 @@ impl Guest {
         requires few_blocks { file_pages_of plan.now.files < 2 ^ 32 }
         requires pieces { All OpInRange cpu.now.commands }
         requires few_commands { length cpu.now.commands < 2 ^ 32 }
-        ensures { IfOk result (λ guest. length guest.pages.items ≡ plan.now.pages) }
+        ensures pages { IfOk result (λ guest. length guest.pages.items ≡ plan.now.pages) }
+        ensures files { IfOk result (λ guest. sum guest.files.items ≡ file_pages_of plan.now.files) }
     {
         let reads = reads_of(alloc, cpu.commands.as_slice())?;
         Ok(Guest {

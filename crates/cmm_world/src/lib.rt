@@ -8,3 +8,4 @@ mod host;
 mod world;
 
 pub use built::is_built;
+pub use world::World;

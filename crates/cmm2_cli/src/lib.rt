@@ -1,0 +1,13 @@
+//! The program's calls: words and bytes in, a status and bytes out.
+#![tactic(auto)]
+
+mod form;
+mod line;
+mod reader;
+mod refusal;
+mod replay;
+mod report;
+mod status;
+
+pub use replay::{MAX_INPUT, cmm2_replay};
+pub use status::Status;

@@ -1,0 +1,40 @@
+ghost use Rattle.std.specs.Prelude.{◌≡◌};
+ghost use Rattle.cmm2_cli.specs.Refusal.{refusal_text, refusal_status};
+
+use crate::status::Status;
+
+/// Why the program doesn't do what was asked.
+#[derive(Clone, Copy, Debug, PartialEq, Eq)]
+pub enum Refusal {
+    /// The words aren't a command line of the program.
+    Words,
+    /// The input is longer than 16,777,216 bytes.
+    Long,
+    /// The input isn't JSON.
+    NotJson,
+    /// The input is JSON that the program can't play yet.
+    Unbuilt,
+}
+
+impl Refusal {
+    /// The line that says so.
+    pub fn text(self) -> &'static [u8]
+        ensures { result.now ≡ refusal_text self }
+    {
+        match self {
+            Refusal::Words => b"refused words\n",
+            Refusal::Long => b"refused long\n",
+            Refusal::NotJson => b"refused json\n",
+            Refusal::Unbuilt => b"refused / unbuilt\n",
+        }
+    }
+
+    pub fn status(self) -> Status
+        ensures { result ≡ refusal_status self }
+    {
+        match self {
+            Refusal::Words => Status::Usage,
+            Refusal::Long | Refusal::NotJson | Refusal::Unbuilt => Status::ScenarioRefused,
+        }
+    }
+}

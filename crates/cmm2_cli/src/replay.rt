@@ -1,0 +1,130 @@
+ghost use Rattle.std.specs.Prelude.{◌≡◌, ◌⊎◌, ◌≤◌, ◌↔◌, length, map, codes, string_bytes, IsTrue, IfSome, IfOk, Some, [], ◌∷◌, List, ℕ};
+ghost use Rattle.cmm_types.specs.InRange.{ScenarioInRange};
+ghost use Rattle.cmm_world.specs.IsBuilt.{IsBuilt};
+ghost use Rattle.cmm_io.specs.Faults.{HasRisen};
+ghost use Rattle.cmm_io.specs.SourceBytes.{IsAtEnd};
+ghost use Rattle.cmm2_cli.specs.Refusal.{refusal_text, refusal_status};
+ghost use Rattle.cmm2_cli.specs.Outcome.{IsReplay, AnswersInput, Answers, WroteNothing};
+
+use crate::reader::{self, Unread};
+use crate::refusal::Refusal;
+use crate::report::write_replay;
+use crate::status::Status;
+use cmm_io::{ReadError, Sink, Source, read_all, write_all};
+use cmm_types::Scenario;
+use cmm_world::{World, is_built};
+use serde_json::Value;
+use std::alloc::{AllocError, Global};
+
+/// The most bytes of an input.
+pub const MAX_INPUT: usize = 16_777_216;
+
+fn is_same(word: &str, text: &str) -> bool
+    ensures { IsTrue result ↔ (word.now ≡ text.now) }
+{
+    word == text
+}
+
+fn is_replay(words: &[String]) -> bool
+    ensures { IsTrue result ↔ IsReplay (map string_bytes words.now) }
+{
+    match words {
+        [word] => is_same(word.as_str(), "replay"),
+        _ => false,
+    }
+}
+
+fn refuse<K: Sink>(out: &mut K, refusal: Refusal) -> Status
+    ensures { Answers K.faults K.written out.old out.new (refusal_text refusal) (refusal_status refusal) result }
+{
+    match write_all(out, refusal.text()) {
+        Ok(()) => refusal.status(),
+        Err(_) => Status::WriteFault,
+    }
+}
+
+/// Plays the plan's schedule and writes the report.
+fn play<K: Sink>(alloc: Global, plan: &Scenario, out: &mut K) -> Status
+    requires in_range { ScenarioInRange plan.now }
+    requires built { IsBuilt plan.now }
+    ensures status { (result ≡ Status.Done) ⊎ ((result ≡ Status.WriteFault) × HasRisen (K.faults out.old) (K.faults out.new))
+        ⊎ ((result ≡ Status.NoMemory) × (out.new ≡ out.old)) }
+{
+    let Ok(mut world) = World::open(alloc, plan) else {
+        return Status::NoMemory;
+    };
+    let Ok(answers) = world.replay(alloc, plan.schedule.as_slice()) else {
+        return Status::NoMemory;
+    };
+    match write_replay(out, &world, answers.as_slice()) {
+        Ok(()) => Status::Done,
+        Err(_) => Status::WriteFault,
+    }
+}
+
+/// The scenario that the bytes spell, if it can be played by now.
+fn plan_of(alloc: Global, tree: &Value) -> Result<Scenario, Unread>
+    ensures in_range { IfOk result ScenarioInRange }
+    ensures built { IfOk result IsBuilt }
+{
+    let plan = reader::scenario(alloc, tree)?;
+    if plan.is_in_range() && is_built(&plan) {
+        Ok(plan)
+    } else {
+        Err(Unread::Unbuilt)
+    }
+}
+
+/// Answers an input.
+fn answer<K: Sink>(alloc: Global, bytes: &[u8], out: &mut K) -> Status
+    requires { length bytes.now ≤ MAX_INPUT }
+    ensures { AnswersInput K.faults K.written out.old out.new bytes.now result }
+{
+    let tree = match Value::from_slice(alloc, bytes) {
+        Ok(tree) => tree,
+        Err(error) => {
+            if error.is_memory() {
+                return Status::NoMemory;
+            }
+            return refuse(out, Refusal::NotJson);
+        }
+    };
+    match plan_of(alloc, &tree) {
+        Ok(plan) => play(alloc, &plan, out),
+        Err(Unread::Unbuilt) => refuse(out, Refusal::Unbuilt),
+        Err(Unread::NoMemory) => Status::NoMemory,
+    }
+}
+
+/// `replay`: reads a scenario, plays its schedule and writes the report.
+pub fn cmm2_replay<S: Source, K: Sink>(
+    alloc: Global,
+    words: &[String],
+    src: &mut S,
+    out: &mut K,
+) -> Status
+    // Other words are refused, and nothing is read.
+    ensures words { ¬ IsReplay (map string_bytes words.now) → Answers K.faults K.written out.old out.new (refusal_text Refusal.Words) Status.Usage result }
+    ensures unread { ¬ IsReplay (map string_bytes words.now) → src.new ≡ src.old }
+    ensures usage { result ≡ Status.Usage → ¬ IsReplay (map string_bytes words.now) }
+
+    // Nothing is written after a read that failed, or where memory ran out.
+    ensures read_fault { result ≡ Status.ReadFault → HasRisen (S.faults src.old) (S.faults src.new) × (out.new ≡ out.old) }
+    ensures no_memory { result ≡ Status.NoMemory → out.new ≡ out.old }
+    ensures write_fault { result ≡ Status.WriteFault → HasRisen (K.faults out.old) (K.faults out.new) }
+
+    // Otherwise the input has its answer.
+    ensures answer { IsReplay (map string_bytes words.now) → IfSome (S.rest src.old) (λ bytes.
+        (result ≡ Status.ReadFault) ⊎ AnswersInput K.faults K.written out.old out.new bytes result) }
+    ensures read_whole { result ≡ Status.Done → IsAtEnd (S.rest src.new) }
+{
+    if !is_replay(words) {
+        return refuse(out, Refusal::Words);
+    }
+    match read_all(alloc, src, MAX_INPUT) {
+        Ok(bytes) => answer(alloc, bytes.as_slice(), out),
+        Err(ReadError::TooLong) => refuse(out, Refusal::Long),
+        Err(ReadError::ReadFault) => Status::ReadFault,
+        Err(ReadError::NoMemory) => Status::NoMemory,
+    }
+}

@@ -1,0 +1,35 @@
+/// How the program ended.
+#[derive(Clone, Copy, Debug, PartialEq, Eq)]
+pub enum Status {
+    /// All was read, and the whole text was written.
+    Done,
+    /// The words aren't a command line of the program.
+    Usage,
+    /// The input is no scenario that the program plays.
+    ScenarioRefused,
+    /// The input couldn't be read.
+    ReadFault,
+    /// The output couldn't be written.
+    WriteFault,
+    /// There was no memory, before anything was written.
+    NoMemory,
+}
+
+impl Status {
+    ghost use Rattle.std.specs.Prelude.{◌≡◌};
+    ghost use Rattle.cmm2_cli.specs.Status.{code_of};
+
+    /// The program's exit status, 0 to 5.
+    pub fn code(self) -> u8
+        ensures { result ≡ code_of self }
+    {
+        match self {
+            Status::Done => 0,
+            Status::Usage => 1,
+            Status::ScenarioRefused => 2,
+            Status::ReadFault => 3,
+            Status::WriteFault => 4,
+            Status::NoMemory => 5,
+        }
+    }
+}
