@@ -8,6 +8,8 @@ mod refusal;
 mod replay;
 mod report;
 mod status;
+#[cfg(test)]
+mod tests;
 
 pub use replay::{MAX_INPUT, cmm2_replay};
 pub use status::Status;

@@ -1,0 +1,138 @@
+use crate::{MAX_INPUT, Status, cmm2_replay};
+use cmm_io::{MemSink, MemSource, Source};
+use std::alloc::Global;
+use std::test::Fail;
+
+const SMALLEST: &str =
+    r#"{"version":1,"frames":4,"guests":[{"pages":4,"swap":0,"files":[{"pages":1,"head":"68656c6c6f"}],"cpus":[{"process":0,"commands":["read 0 0 5"]}]}],"schedule":["cpu 0 0","cpu 0 0","cpu 0 0"]}"#;
+
+const SMALLEST_REPORT: &str = "cmm2-report 1 replay
+event 0 moved
+event 1 moved
+event 2 finished
+guest 0 entries 1 discards 0 faults 0
+0 0 ok 68656c6c6f
+end
+";
+
+const LOST: &str =
+    r#"{"version":1,"frames":4,"guests":[{"pages":4,"swap":0,"files":[{"pages":1,"head":"68656c6c6f"}],"cpus":[{"process":0,"commands":["read 0 0 5","read 0 0 5"]}]}],"schedule":["cpu 0 0","cpu 0 0","cpu 0 0","discard 0 0","cpu 0 0","cpu 0 0","cpu 0 0","cpu 0 0"]}"#;
+
+const LOST_REPORT: &str = "cmm2-report 1 replay
+event 0 moved
+event 1 moved
+event 2 finished
+event 3 done
+event 4 moved
+event 5 moved
+event 6 moved
+event 7 finished
+guest 0 entries 2 discards 1 faults 1
+0 0 ok 68656c6c6f
+0 1 ok 68656c6c6f
+end
+";
+
+const LOCKED: &str =
+    r#"{"version":1,"frames":4,"guests":[{"pages":4,"swap":0,"files":[{"pages":1,"head":"68656c6c6f"}],"cpus":[{"process":0,"commands":["read 0 0 5"]}]}],"schedule":["cpu 0 0","discard 0 0","cpu 0 0","cpu 0 0"]}"#;
+
+const LOCKED_REPORT: &str = "cmm2-report 1 replay
+event 0 moved
+event 1 refused stable
+event 2 moved
+event 3 finished
+guest 0 entries 1 discards 0 faults 0
+0 0 ok 68656c6c6f
+end
+";
+
+fn source(alloc: Global, input: &str, failing_read: u32) -> Result<MemSource, Fail> {
+    let input = Vec::from_slice(alloc, input.as_bytes())?;
+    Ok(MemSource::new(input, 4096, vec![in alloc; failing_read]?))
+}
+
+fn sink(alloc: Global, failing_write: u32) -> Result<MemSink, Fail> {
+    Ok(MemSink::open(alloc, 4096, vec![in alloc; failing_write]?)?)
+}
+
+fn replay_words(alloc: Global) -> Result<Vec<String>, Fail> {
+    Ok(vec![in alloc; String::from_str(alloc, "replay")?]?)
+}
+
+#[test]
+fn a_scenario_gives_its_report(rt: HostRuntime) -> Result<(), Fail> {
+    let table = [
+        (SMALLEST, Status::Done, SMALLEST_REPORT),
+        (LOST, Status::Done, LOST_REPORT),
+        (LOCKED, Status::Done, LOCKED_REPORT),
+        ("", Status::ScenarioRefused, "refused json\n"),
+        (
+            r#"{"version":1,"frames":4,"#,
+            Status::ScenarioRefused,
+            "refused json\n",
+        ),
+    ];
+    let words = replay_words(rt.alloc())?;
+    for (input, wanted, text) in table {
+        let mut out = sink(rt.alloc(), 0)?;
+        let status = cmm2_replay(
+            rt.alloc(),
+            words.as_slice(),
+            &mut source(rt.alloc(), input, 0)?,
+            &mut out,
+        );
+        assert_eq!(rt; out.bytes(), text.as_bytes());
+        assert_eq!(rt; status, wanted);
+    }
+    Ok(())
+}
+
+#[test]
+fn too_long_an_input_is_refused(rt: HostRuntime) -> Result<(), Fail> {
+    let spaces = vec![in rt.alloc(); b' '; MAX_INPUT + 1]?;
+    let mut src = MemSource::new(spaces, MAX_INPUT, Vec::new(rt.alloc()));
+    let mut out = sink(rt.alloc(), 0)?;
+    let words = replay_words(rt.alloc())?;
+    let status = cmm2_replay(rt.alloc(), words.as_slice(), &mut src, &mut out);
+    assert_eq!(rt; status, Status::ScenarioRefused);
+    assert_eq!(rt; out.bytes(), b"refused long\n".as_slice());
+    Ok(())
+}
+
+#[test]
+fn other_words_leave_the_input_unread(rt: HostRuntime) -> Result<(), Fail> {
+    let replay = String::from_str(rt.alloc(), "replay")?;
+    let more = vec![in rt.alloc(); replay, String::from_str(rt.alloc(), "x")?]?;
+    for words in [&[], more.as_slice()] {
+        // The first read would fail.
+        let mut src = source(rt.alloc(), SMALLEST, 1)?;
+        let mut out = sink(rt.alloc(), 0)?;
+        let status = cmm2_replay(rt.alloc(), words, &mut src, &mut out);
+        assert_eq!(rt; status, Status::Usage);
+        assert_eq!(rt; status.code(), 1);
+        assert_eq!(rt; src.faults(), 0);
+        assert_eq!(rt; out.bytes(), b"refused words\n".as_slice());
+    }
+    Ok(())
+}
+
+#[test]
+fn a_failing_end_stops_the_program(rt: HostRuntime) -> Result<(), Fail> {
+    let words = replay_words(rt.alloc())?;
+    let table = [
+        (0, 2, Status::WriteFault, "cmm2-report 1 replay\n"),
+        (1, 0, Status::ReadFault, ""),
+    ];
+    for (failing_read, failing_write, wanted, text) in table {
+        let mut out = sink(rt.alloc(), failing_write)?;
+        let status = cmm2_replay(
+            rt.alloc(),
+            words.as_slice(),
+            &mut source(rt.alloc(), LOST, failing_read)?,
+            &mut out,
+        );
+        assert_eq!(rt; status, wanted);
+        assert_eq!(rt; out.bytes(), text.as_bytes());
+    }
+    Ok(())
+}
