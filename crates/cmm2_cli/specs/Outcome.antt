@@ -1,30 +1,23 @@
 -- What the program answers to its words and its input, and what it writes.
-use Rattle.std.specs.Prelude.{◌≡◌, ◌⊎◌, ℕ, ◌<◌, ◌≤◌, List, [], ◌∷◌, length, codes, Option, Some, IsUtf8}
-use Rattle.serde_json.specs.Data.{Data}
-use Rattle.serde_json.specs.Read.{read}
+use Rattle.std.specs.Prelude.{◌≡◌, ◌⊎◌, ℕ, ◌<◌, ◌≤◌, List, [], ◌∷◌, length, codes, false, Option, Result, Ok, Err}
+use Rattle.cmm_types.specs.declared.event.Answer.{Answer}
+use Rattle.cmm_types.specs.declared.plan.Scenario.{Scenario}
 use Rattle.cmm_io.specs.Faults.{HasRisen}
 use Rattle.cmm_io.specs.SinkBytes.{behind, WrotePrefix}
+use Rattle.cmm_scenario.specs.declared.error.ScenarioError.{ScenarioError}
+use Rattle.cmm_scenario.specs.declared.error.ScenarioError.TheVariants as errors
+use Rattle.cmm_scenario.specs.Scenario.{scenario_of}
+use Rattle.cmm_report.specs.Report.{GuestReport, report_of}
+use Rattle.cmm_world.specs.IsBuilt.{IsBuilt}
 use Rattle.cmm2_cli.specs.declared.replay.TheConstants.{MAX_INPUT}
-use Rattle.cmm2_cli.specs.declared.refusal.Refusal.{Refusal}
-use Rattle.cmm2_cli.specs.declared.refusal.Refusal.TheVariants.{Words, Long, NotJson, Unbuilt}
+use Rattle.cmm2_cli.specs.declared.refusal.Refusal.TheVariants.{Long, NotJson, Unbuilt}
 use Rattle.cmm2_cli.specs.declared.status.Status.{Status}
-use Rattle.cmm2_cli.specs.declared.status.Status.TheVariants.{Done, WriteFault, NoMemory}
-use Rattle.cmm2_cli.specs.Refusal.{refusal_text, refusal_status}
+use Rattle.cmm2_cli.specs.declared.status.Status.TheVariants.{Done, ScenarioRefused, WriteFault, NoMemory}
+use Rattle.cmm2_cli.specs.Refusal.{refusal_text, fault_text}
 
 -- the one command line
 abbrev pub IsReplay : List (List ℕ) → Type 0
 IsReplay words = words ≡ codes "replay" ∷ []
-
--- the bytes are a JSON text whose values are nested at most 127 deep
-abbrev pub IsJson : List ℕ → Type 0
-IsJson bytes = (tree : Data) × IsUtf8 bytes × (read bytes ≡ Some tree)
-
--- an input is refused so
-abbrev pub IsRefused : List ℕ → Refusal → Type 0
-IsRefused bytes Words = ⊥
-IsRefused bytes Long = MAX_INPUT < length bytes
-IsRefused bytes NotJson = (length bytes ≤ MAX_INPUT) × ¬ IsJson bytes
-IsRefused bytes Unbuilt = (length bytes ≤ MAX_INPUT) × IsJson bytes
 
 module _ {K : Type 0} (faults : K → ℕ) (written : K → Option (List ℕ)) (old new : K) where
   -- the whole text was written behind what was written before
@@ -40,22 +33,37 @@ module _ {K : Type 0} (faults : K → ℕ) (written : K → Option (List ℕ)) (
 
   -- the text was written and the program ends with this status, unless the sink failed
   abbrev pub Answers : List ℕ → Status → Status → Type 0
-  Answers text status result = WroteAll text status result ⊎ WroteFront text result
+  Answers text wanted result = WroteAll text wanted result ⊎ WroteFront text result
 
   -- the program ends with this status, and has written nothing
   pub record WroteNothing (wanted result : Status) : Type 0 where
     pub status : result ≡ wanted
     pub same : new ≡ old
 
-  -- the input is played: nothing is said of the report yet but that it fails only with the sink
-  pub record Plays (bytes : List ℕ) (result : Status) : Type 0 where
-    pub few : length bytes ≤ MAX_INPUT
-    pub json : IsJson bytes
-    pub status : (result ≡ Done) ⊎ ((result ≡ WriteFault) × HasRisen (faults old) (faults new))
+  -- the report has an answer for each event, and a guest. Nothing is said yet of what they are
+  pub record Plays (plan : Scenario) (result : Status) : Type 0 where
+    pub answers : List Answer
+    pub guest : GuestReport
+    pub all : length answers ≡ length plan.schedule
+    pub report : Answers (report_of false answers (guest ∷ [])) Done result
 
-  -- a refusal with its line, a report, or want of memory before anything is written
+  -- a plan is played where it is built
+  abbrev pub AnswersPlan : Scenario → Status → Type 0
+  AnswersPlan plan result = (IsBuilt plan × Plays plan result) ⊎ (¬ IsBuilt plan × Answers (refusal_text Unbuilt) ScenarioRefused result)
+
+  -- what the bytes mean decides the line of a refusal
+  abbrev pub AnswersReading : Result Scenario ScenarioError → Status → Type 0
+  AnswersReading (Ok plan) result = AnswersPlan plan result
+  AnswersReading (Err errors.NotJson) result = Answers (refusal_text NotJson) ScenarioRefused result
+  AnswersReading (Err (errors.Fault path kind)) result = Answers (fault_text path kind) ScenarioRefused result
+  AnswersReading (Err errors.NoMemory) result = ⊥
+
+  -- an input within the limit is read
+  abbrev pub AnswersBytes : List ℕ → Status → Type 0
+  AnswersBytes bytes result = AnswersReading (scenario_of bytes) result ⊎ WroteNothing NoMemory result
+
   abbrev pub AnswersInput : List ℕ → Status → Type 0
   AnswersInput bytes result =
-      ((refusal : Refusal) × IsRefused bytes refusal × Answers (refusal_text refusal) (refusal_status refusal) result)
-      ⊎ Plays bytes result
+      ((MAX_INPUT < length bytes) × Answers (refusal_text Long) ScenarioRefused result)
+      ⊎ ((length bytes ≤ MAX_INPUT) × AnswersBytes bytes result)
       ⊎ WroteNothing NoMemory result

@@ -1,9 +1,7 @@
 //! The program's calls: words and bytes in, a status and bytes out.
 #![tactic(auto)]
 
-mod form;
-mod line;
-mod reader;
+mod fault;
 mod refusal;
 mod replay;
 mod report;

@@ -1,7 +1,8 @@
 ghost use Rattle.std.specs.Prelude.{◌≡◌};
-ghost use Rattle.cmm2_cli.specs.Refusal.{refusal_text, refusal_status};
+ghost use Rattle.cmm2_cli.specs.Refusal.{refusal_text, refusal_status, kind_end};
 
 use crate::status::Status;
+use cmm_scenario::Kind;
 
 /// Why the program doesn't do what was asked.
 #[derive(Clone, Copy, Debug, PartialEq, Eq)]
@@ -12,7 +13,7 @@ pub enum Refusal {
     Long,
     /// The input isn't JSON.
     NotJson,
-    /// The input is JSON that the program can't play yet.
+    /// The scenario can't be played yet.
     Unbuilt,
 }
 
@@ -36,5 +37,20 @@ impl Refusal {
             Refusal::Words => Status::Usage,
             Refusal::Long | Refusal::NotJson | Refusal::Unbuilt => Status::ScenarioRefused,
         }
+    }
+}
+
+/// The end of the line on a scenario's fault.
+pub fn kind_end(kind: Kind) -> &'static [u8]
+    ensures { result.now ≡ kind_end kind }
+{
+    match kind {
+        Kind::Missing => b" missing\n",
+        Kind::Unknown => b" unknown\n",
+        Kind::Type_ => b" type\n",
+        Kind::Range => b" range\n",
+        Kind::Text => b" text\n",
+        Kind::Hex => b" hex\n",
+        Kind::Total => b" total\n",
     }
 }

@@ -1,20 +1,21 @@
-ghost use Rattle.std.specs.Prelude.{◌≡◌, ◌⊎◌, ◌≤◌, ◌↔◌, length, map, codes, string_bytes, IsTrue, IfSome, IfOk, Some, [], ◌∷◌, List, ℕ};
+ghost use Rattle.std.specs.Prelude.{◌≡◌, ◌⊎◌, ◌≤◌, ◌↔◌, length, map, codes, string_bytes, IsTrue, IfSome, IfOk, Some, false, [], ◌∷◌, List, ℕ};
 ghost use Rattle.cmm_types.specs.InRange.{ScenarioInRange};
 ghost use Rattle.cmm_world.specs.IsBuilt.{IsBuilt};
 ghost use Rattle.cmm_io.specs.Faults.{HasRisen};
 ghost use Rattle.cmm_io.specs.SourceBytes.{IsAtEnd};
-ghost use Rattle.cmm2_cli.specs.Refusal.{refusal_text, refusal_status};
-ghost use Rattle.cmm2_cli.specs.Outcome.{IsReplay, AnswersInput, Answers, WroteNothing};
+ghost use Rattle.cmm_report.specs.Report.{GuestReport, report_of};
+ghost use Rattle.cmm2_cli.specs.Refusal.{refusal_text, refusal_status, fault_text};
+ghost use Rattle.cmm2_cli.specs.Outcome.{IsReplay, Answers, WroteNothing, Plays, AnswersPlan, AnswersBytes, AnswersInput};
 
-use crate::reader::{self, Unread};
-use crate::refusal::Refusal;
+use crate::fault::write_fault;
+use crate::refusal::{Refusal, kind_end};
 use crate::report::write_replay;
 use crate::status::Status;
 use cmm_io::{ReadError, Sink, Source, read_all, write_all};
-use cmm_types::Scenario;
+use cmm_scenario::{Kind, Path, ScenarioError, read_scenario};
+use cmm_types::{Answer, Entry, Scenario};
 use cmm_world::{World, is_built};
-use serde_json::Value;
-use std::alloc::{AllocError, Global};
+use std::alloc::Global;
 
 /// The most bytes of an input.
 pub const MAX_INPUT: usize = 16_777_216;
@@ -43,12 +44,37 @@ fn refuse<K: Sink>(out: &mut K, refusal: Refusal) -> Status
     }
 }
 
+fn refuse_fault<K: Sink>(out: &mut K, path: &Path, kind: Kind) -> Status
+    ensures { Answers K.faults K.written out.old out.new (fault_text path.now kind) Status.ScenarioRefused result }
+{
+    match write_fault(out, path.as_slice(), kind_end(kind)) {
+        Ok(()) => Status::ScenarioRefused,
+        Err(_) => Status::WriteFault,
+    }
+}
+
+fn report<K: Sink>(
+    out: &mut K,
+    answers: &[Answer],
+    journal: &[Entry],
+    discards: u64,
+    faults: u64,
+) -> Status
+    ensures { Answers K.faults K.written out.old out.new
+        (report_of false answers.now (record { journal = journal.now; discards = discards; faults = faults } ∷ [])) Status.Done result }
+{
+    match write_replay(out, answers, journal, discards, faults) {
+        Ok(()) => Status::Done,
+        Err(_) => Status::WriteFault,
+    }
+}
+
 /// Plays the plan's schedule and writes the report.
 fn play<K: Sink>(alloc: Global, plan: &Scenario, out: &mut K) -> Status
     requires in_range { ScenarioInRange plan.now }
     requires built { IsBuilt plan.now }
-    ensures status { (result ≡ Status.Done) ⊎ ((result ≡ Status.WriteFault) × HasRisen (K.faults out.old) (K.faults out.new))
-        ⊎ ((result ≡ Status.NoMemory) × (out.new ≡ out.old)) }
+    ensures { Plays K.faults K.written out.old out.new plan.now result
+        ⊎ WroteNothing K.faults K.written out.old out.new Status.NoMemory result }
 {
     let Ok(mut world) = World::open(alloc, plan) else {
         return Status::NoMemory;
@@ -56,43 +82,35 @@ fn play<K: Sink>(alloc: Global, plan: &Scenario, out: &mut K) -> Status
     let Ok(answers) = world.replay(alloc, plan.schedule.as_slice()) else {
         return Status::NoMemory;
     };
-    match write_replay(out, &world, answers.as_slice()) {
-        Ok(()) => Status::Done,
-        Err(_) => Status::WriteFault,
-    }
+    let answers = answers.as_slice();
+    let journal = world.journal();
+    let discards = world.discards();
+    let faults = world.faults();
+    report(out, answers, journal, discards, faults)
 }
 
-/// The scenario that the bytes spell, if it can be played by now.
-fn plan_of(alloc: Global, tree: &Value) -> Result<Scenario, Unread>
-    ensures in_range { IfOk result ScenarioInRange }
-    ensures built { IfOk result IsBuilt }
+/// Answers a plan that was read.
+fn answer_plan<K: Sink>(alloc: Global, plan: &Scenario, out: &mut K) -> Status
+    requires { ScenarioInRange plan.now }
+    ensures { AnswersPlan K.faults K.written out.old out.new plan.now result
+        ⊎ WroteNothing K.faults K.written out.old out.new Status.NoMemory result }
 {
-    let plan = reader::scenario(alloc, tree)?;
-    if plan.is_in_range() && is_built(&plan) {
-        Ok(plan)
+    if is_built(plan) {
+        play(alloc, plan, out)
     } else {
-        Err(Unread::Unbuilt)
+        refuse(out, Refusal::Unbuilt)
     }
 }
 
 /// Answers an input.
 fn answer<K: Sink>(alloc: Global, bytes: &[u8], out: &mut K) -> Status
-    requires { length bytes.now ≤ MAX_INPUT }
-    ensures { AnswersInput K.faults K.written out.old out.new bytes.now result }
+    ensures { AnswersBytes K.faults K.written out.old out.new bytes.now result }
 {
-    let tree = match Value::from_slice(alloc, bytes) {
-        Ok(tree) => tree,
-        Err(error) => {
-            if error.is_memory() {
-                return Status::NoMemory;
-            }
-            return refuse(out, Refusal::NotJson);
-        }
-    };
-    match plan_of(alloc, &tree) {
-        Ok(plan) => play(alloc, &plan, out),
-        Err(Unread::Unbuilt) => refuse(out, Refusal::Unbuilt),
-        Err(Unread::NoMemory) => Status::NoMemory,
+    match read_scenario(alloc, bytes) {
+        Ok(plan) => answer_plan(alloc, &plan, out),
+        Err(ScenarioError::NotJson) => refuse(out, Refusal::NotJson),
+        Err(ScenarioError::Fault { path, kind }) => refuse_fault(out, &path, kind),
+        Err(ScenarioError::NoMemory) => Status::NoMemory,
     }
 }
 

@@ -1,0 +1,17 @@
+use Rattle.std.proofs.Common.{[], ◌∷◌, ◌++◌, false}
+use Rattle.cmm_report.specs.Lines.{head_line}
+use Rattle.cmm_report.specs.Report.{events_text, guests_text}
+use Rattle.cmm2_cli.proofs.Wrote.{failed_first, wrote_both, failed_second}
+use Rattle.cmm2_cli.proofs.report.write_body.Goals as goal
+
+pub returns-in_err-write_answers-clause-prefix : goal.returns-in_err-write_answers-clause-prefix
+returns-in_err-write_answers-clause-prefix g c =
+    failed_first c.from_residual.result (g.K.Sink.written c.args.out.now) (head_line false ++ events_text 0 c.args.answers.now) (guests_text 0 (record { journal = c.args.journal.now; discards = c.args.discards; faults = c.args.faults } ∷ [])) (g.K.Sink.written c.write_answers.new.out) c.in_err-write_answers.ensures.prefix
+
+pub returns-clause-wrote : goal.returns-clause-wrote
+returns-clause-wrote g c =
+    wrote_both c.write_only_guest.result (g.K.Sink.written c.args.out.now) (g.K.Sink.written c.write_answers.new.out) (g.K.Sink.written c.write_only_guest.new.out) (head_line false ++ events_text 0 c.args.answers.now) (guests_text 0 (record { journal = c.args.journal.now; discards = c.args.discards; faults = c.args.faults } ∷ [])) c.in_ok-write_answers.ensures.wrote c.write_only_guest.ensures.wrote
+
+pub returns-clause-prefix : goal.returns-clause-prefix
+returns-clause-prefix g c =
+    failed_second c.write_only_guest.result (g.K.Sink.written c.args.out.now) (g.K.Sink.written c.write_answers.new.out) (g.K.Sink.written c.write_only_guest.new.out) (head_line false ++ events_text 0 c.args.answers.now) (guests_text 0 (record { journal = c.args.journal.now; discards = c.args.discards; faults = c.args.faults } ∷ [])) c.in_ok-write_answers.ensures.wrote c.write_only_guest.ensures.prefix
