@@ -1,2 +1,6 @@
 pub mod Joined
 pub mod Written
+pub mod Splits
+pub mod HexLaws
+pub mod ReplyLaws
+pub mod JournalLaws

@@ -2,11 +2,13 @@
 //! line to any sink. It takes no memory.
 #![tactic(auto)]
 
+mod law;
 mod line;
 mod lines;
 mod report;
 mod texts;
 
+pub use law::text_determines_journal;
 pub use report::{write_end, write_events, write_guest, write_head};
 
 #[cfg(test)]
