@@ -1,5 +1,6 @@
 pub mod Outcome
 pub mod Words
+pub mod Spelling
 pub mod Commands
 pub mod Events
 pub mod Paths

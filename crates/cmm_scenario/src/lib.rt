@@ -6,6 +6,7 @@ mod error;
 mod events;
 mod fault;
 mod guests;
+mod laws;
 mod path;
 mod scenario;
 mod tree;
@@ -13,6 +14,9 @@ mod words;
 
 pub use error::ScenarioError;
 pub use fault::Kind;
+pub use laws::{
+    bytes_read_back, commands_read_back, events_read_back, numbers_read_back, worked_spellings,
+};
 pub use path::Path;
 pub use scenario::read_scenario;
 
