@@ -136,3 +136,39 @@ fn a_failing_end_stops_the_program(rt: HostRuntime) -> Result<(), Fail> {
     }
     Ok(())
 }
+
+#[test]
+fn a_sink_that_fails_at_a_write_has_the_lines_before(rt: HostRuntime) -> Result<(), Fail> {
+    let words = replay_words(rt.alloc())?;
+    let lines = LOST_REPORT.as_bytes();
+    let mut whole_lines = 0;
+    for failing_write in 1..=14u32 {
+        let mut out = sink(rt.alloc(), failing_write)?;
+        let status = cmm2_replay(
+            rt.alloc(),
+            words.as_slice(),
+            &mut source(rt.alloc(), LOST, 0)?,
+            &mut out,
+        );
+        let whole = failing_write == 14;
+        let wanted = if whole {
+            Status::Done
+        } else {
+            Status::WriteFault
+        };
+        assert_eq!(rt; status, wanted, "failing write {failing_write}");
+        let written = out.bytes().iter().filter(|byte| **byte == b'\n').count();
+        assert_eq!(rt;
+            written + 1,
+            failing_write as usize,
+            "lines before {failing_write}"
+        );
+        assert!(rt;
+            lines.starts_with(out.bytes()),
+            "failing write {failing_write}"
+        );
+        whole_lines = written;
+    }
+    assert_eq!(rt; whole_lines, 13);
+    Ok(())
+}
