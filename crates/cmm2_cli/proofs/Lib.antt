@@ -1,1 +1,2 @@
 pub mod Wrote
+mod FromGuest

@@ -1,3 +1,4 @@
+pub mod Reports
 pub mod Status
 pub mod Refusal
 pub mod Outcome

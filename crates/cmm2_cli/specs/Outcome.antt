@@ -1,19 +1,21 @@
 -- What the program answers to its words and its input, and what it writes.
 use Rattle.std.specs.Prelude.{◌≡◌, ◌⊎◌, ℕ, ◌<◌, ◌≤◌, List, [], ◌∷◌, length, codes, false, Option, Result, Ok, Err}
-use Rattle.cmm_types.specs.declared.event.Answer.{Answer}
 use Rattle.cmm_types.specs.declared.plan.Scenario.{Scenario}
 use Rattle.cmm_io.specs.Faults.{HasRisen}
 use Rattle.cmm_io.specs.SinkBytes.{behind, WrotePrefix}
 use Rattle.cmm_scenario.specs.declared.error.ScenarioError.{ScenarioError}
 use Rattle.cmm_scenario.specs.declared.error.ScenarioError.TheVariants as errors
 use Rattle.cmm_scenario.specs.Scenario.{scenario_of}
-use Rattle.cmm_report.specs.Report.{GuestReport, report_of}
-use Rattle.cmm_world.specs.IsBuilt.{IsBuilt}
+use Rattle.cmm_report.specs.Report.{report_of}
+use Rattle.cmm_world.specs.Built.{IsBuilt}
+use Rattle.cmm_world.specs.Run.{run_of}
+use Rattle.cmm_world.specs.Headline.{IsLegalRun}
 use Rattle.cmm2_cli.specs.declared.replay.TheConstants.{MAX_INPUT}
 use Rattle.cmm2_cli.specs.declared.refusal.Refusal.TheVariants.{Long, NotJson, Unbuilt}
 use Rattle.cmm2_cli.specs.declared.status.Status.{Status}
 use Rattle.cmm2_cli.specs.declared.status.Status.TheVariants.{Done, ScenarioRefused, WriteFault, NoMemory}
 use Rattle.cmm2_cli.specs.Refusal.{refusal_text, fault_text}
+use Rattle.cmm2_cli.specs.Reports.{reports_of}
 
 -- the one command line
 abbrev pub IsReplay : List (List ℕ) → Type 0
@@ -40,12 +42,11 @@ module _ {K : Type 0} (faults : K → ℕ) (written : K → Option (List ℕ)) (
     pub status : result ≡ wanted
     pub same : new ≡ old
 
-  -- the report has an answer for each event, and a guest. Nothing is said yet of what they are
+  -- the report is that of the run of the plan: the answers to its events, and of each guest the journal, the discards and the faults. Each
+  -- journal is legal, and no step of the run discards a page that its guest needs
   pub record Plays (plan : Scenario) (result : Status) : Type 0 where
-    pub answers : List Answer
-    pub guest : GuestReport
-    pub all : length answers ≡ length plan.schedule
-    pub report : Answers (report_of false answers (guest ∷ [])) Done result
+    pub report : Answers (report_of false (run_of plan).0 (reports_of (run_of plan).1)) Done result
+    pub run : IsLegalRun plan
 
   -- a plan is played where it is built
   abbrev pub AnswersPlan : Scenario → Status → Type 0

@@ -1,9 +1,10 @@
 ghost use Rattle.std.specs.Prelude.{◌≡◌, ◌⊎◌, ◌≤◌, ◌↔◌, length, map, codes, string_bytes, IsTrue, IfSome, IfOk, Some, false, [], ◌∷◌, List, ℕ};
 ghost use Rattle.cmm_types.specs.InRange.{ScenarioInRange};
-ghost use Rattle.cmm_world.specs.IsBuilt.{IsBuilt};
+ghost use Rattle.cmm_world.specs.Built.{IsBuilt};
 ghost use Rattle.cmm_io.specs.Faults.{HasRisen};
 ghost use Rattle.cmm_io.specs.SourceBytes.{IsAtEnd};
-ghost use Rattle.cmm_report.specs.Report.{GuestReport, report_of};
+ghost use Rattle.cmm_report.specs.Report.{report_of};
+ghost use Rattle.cmm2_cli.specs.Reports.{reports_of};
 ghost use Rattle.cmm2_cli.specs.Refusal.{refusal_text, refusal_status, fault_text};
 ghost use Rattle.cmm2_cli.specs.Outcome.{IsReplay, Answers, WroteNothing, Plays, AnswersPlan, AnswersBytes, AnswersInput};
 
@@ -13,7 +14,7 @@ use crate::report::write_replay;
 use crate::status::Status;
 use cmm_io::{ReadError, Sink, Source, read_all, write_all};
 use cmm_scenario::{Kind, Path, ScenarioError, read_scenario};
-use cmm_types::{Answer, Entry, Scenario};
+use cmm_types::Scenario;
 use cmm_world::{World, is_built};
 use std::alloc::Global;
 
@@ -53,17 +54,10 @@ fn refuse_fault<K: Sink>(out: &mut K, path: &Path, kind: Kind) -> Status
     }
 }
 
-fn report<K: Sink>(
-    out: &mut K,
-    answers: &[Answer],
-    journal: &[Entry],
-    discards: u64,
-    faults: u64,
-) -> Status
-    ensures { Answers K.faults K.written out.old out.new
-        (report_of false answers.now (record { journal = journal.now; discards = discards; faults = faults } ∷ [])) Status.Done result }
+fn report<K: Sink>(out: &mut K, world: &World) -> Status
+    ensures { Answers K.faults K.written out.old out.new (report_of false world.now.answers (reports_of world.now.state)) Status.Done result }
 {
-    match write_replay(out, answers, journal, discards, faults) {
+    match write_replay(out, world) {
         Ok(()) => Status::Done,
         Err(_) => Status::WriteFault,
     }
@@ -79,14 +73,8 @@ fn play<K: Sink>(alloc: Global, plan: &Scenario, out: &mut K) -> Status
     let Ok(mut world) = World::open(alloc, plan) else {
         return Status::NoMemory;
     };
-    let Ok(answers) = world.replay(alloc, plan.schedule.as_slice()) else {
-        return Status::NoMemory;
-    };
-    let answers = answers.as_slice();
-    let journal = world.journal();
-    let discards = world.discards();
-    let faults = world.faults();
-    report(out, answers, journal, discards, faults)
+    world.replay(plan.schedule.as_slice());
+    report(out, &world)
 }
 
 /// Answers a plan that was read.

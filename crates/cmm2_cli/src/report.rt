@@ -1,13 +1,16 @@
-// The report of a replay of one guest, put together from its parts.
-ghost use Rattle.std.specs.Prelude.{◌≡◌, ◌≤◌, [], ◌∷◌, ◌++◌, false, OnOk, OnErr};
+// The report of a replay, put together from its parts.
+ghost use Rattle.std.specs.Prelude.{◌≡◌, ◌≤◌, ◌<◌, ◌-◌, ◌++◌, length, false, OnOk, OnErr};
 ghost use Rattle.cmm_io.specs.Faults.{HasRisen};
 ghost use Rattle.cmm_io.specs.SinkBytes.{behind, WrotePrefix};
 ghost use Rattle.cmm_report.specs.Lines.{head_line};
-ghost use Rattle.cmm_report.specs.Report.{events_text, guests_text, report_of};
+ghost use Rattle.cmm_report.specs.Report.{events_text, guest_text, guests_text, report_of};
+ghost use Rattle.cmm_world.specs.WorldView.{discards_of};
+ghost use Rattle.cmm2_cli.specs.Reports.{guest_report, reports_of};
 
 use cmm_io::{Sink, WriteFault};
 use cmm_report::{write_end, write_events, write_guest, write_head};
-use cmm_types::{Answer, Entry};
+use cmm_types::Answer;
+use cmm_world::World;
 
 fn write_answers<K: Sink>(out: &mut K, answers: &[Answer]) -> Result<(), WriteFault>
     ensures wrote { OnOk result (K.written out.new ≡ behind (K.written out.old) (head_line false ++ events_text 0 answers.now)) }
@@ -19,49 +22,64 @@ fn write_answers<K: Sink>(out: &mut K, answers: &[Answer]) -> Result<(), WriteFa
     write_events(out, answers)
 }
 
-fn write_only_guest<K: Sink>(
-    out: &mut K,
-    journal: &[Entry],
-    discards: u64,
-    faults: u64,
-) -> Result<(), WriteFault>
-    ensures wrote { OnOk result (K.written out.new ≡ behind (K.written out.old) (guests_text 0 ((record { journal = journal.now; discards = discards; faults = faults }) ∷ []))) }
-    ensures prefix { OnErr result (WrotePrefix (K.written out.old) (guests_text 0 ((record { journal = journal.now; discards = discards; faults = faults }) ∷ [])) (K.written out.new)) }
-    ensures fault { OnErr result (HasRisen (K.faults out.old) (K.faults out.new)) }
-    ensures never_falls { K.faults out.old ≤ K.faults out.new }
+/// How often a page of the guest was discarded.
+fn discards(world: &World, guest: u32) -> u64
+    requires { guest < length world.now.state.guests }
+    ensures { result ≡ discards_of world.now.state guest }
 {
-    write_guest(out, 0, journal, discards, faults)
+    let mut discards = 0;
+    for word in world.words(guest) {
+        discards += u64::from(word.count());
+    }
+    discards
 }
 
-fn write_body<K: Sink>(
-    out: &mut K,
-    answers: &[Answer],
-    journal: &[Entry],
-    discards: u64,
-    faults: u64,
-) -> Result<(), WriteFault>
-    ensures wrote { OnOk result (K.written out.new ≡ behind (K.written out.old) (head_line false ++ events_text 0 answers.now ++ guests_text 0 ((record { journal = journal.now; discards = discards; faults = faults }) ∷ []))) }
-    ensures prefix { OnErr result (WrotePrefix (K.written out.old) (head_line false ++ events_text 0 answers.now ++ guests_text 0 ((record { journal = journal.now; discards = discards; faults = faults }) ∷ [])) (K.written out.new)) }
+fn write_one_guest<K: Sink>(out: &mut K, world: &World, guest: u32) -> Result<(), WriteFault>
+    requires { guest < length world.now.state.guests }
+    ensures wrote { OnOk result (K.written out.new ≡ behind (K.written out.old) (guest_text guest (guest_report world.now.state guest))) }
+    ensures prefix { OnErr result (WrotePrefix (K.written out.old) (guest_text guest (guest_report world.now.state guest)) (K.written out.new)) }
     ensures fault { OnErr result (HasRisen (K.faults out.old) (K.faults out.new)) }
     ensures never_falls { K.faults out.old ≤ K.faults out.new }
 {
-    write_answers(out, answers)?;
-    write_only_guest(out, journal, discards, faults)
+    let its = world.guest(guest);
+    write_guest(
+        out,
+        guest,
+        its.journal(),
+        discards(world, guest),
+        its.faults(),
+    )
 }
 
-/// Writes the report of a replay of one guest.
-pub fn write_replay<K: Sink>(
-    out: &mut K,
-    answers: &[Answer],
-    journal: &[Entry],
-    discards: u64,
-    faults: u64,
-) -> Result<(), WriteFault>
-    ensures wrote { OnOk result (K.written out.new ≡ behind (K.written out.old) (report_of false answers.now ((record { journal = journal.now; discards = discards; faults = faults }) ∷ []))) }
-    ensures prefix { OnErr result (WrotePrefix (K.written out.old) (report_of false answers.now ((record { journal = journal.now; discards = discards; faults = faults }) ∷ [])) (K.written out.new)) }
+fn write_guests<K: Sink>(out: &mut K, world: &World) -> Result<(), WriteFault>
+    ensures wrote { OnOk result (K.written out.new ≡ behind (K.written out.old) (guests_text 0 (reports_of world.now.state))) }
+    ensures prefix { OnErr result (WrotePrefix (K.written out.old) (guests_text 0 (reports_of world.now.state)) (K.written out.new)) }
     ensures fault { OnErr result (HasRisen (K.faults out.old) (K.faults out.new)) }
     ensures never_falls { K.faults out.old ≤ K.faults out.new }
 {
-    write_body(out, answers, journal, discards, faults)?;
+    for guest in 0..world.guests() {
+        write_one_guest(out, world, guest)?;
+    }
+    Ok(())
+}
+
+fn write_body<K: Sink>(out: &mut K, world: &World) -> Result<(), WriteFault>
+    ensures wrote { OnOk result (K.written out.new ≡ behind (K.written out.old) (head_line false ++ events_text 0 world.now.answers ++ guests_text 0 (reports_of world.now.state))) }
+    ensures prefix { OnErr result (WrotePrefix (K.written out.old) (head_line false ++ events_text 0 world.now.answers ++ guests_text 0 (reports_of world.now.state)) (K.written out.new)) }
+    ensures fault { OnErr result (HasRisen (K.faults out.old) (K.faults out.new)) }
+    ensures never_falls { K.faults out.old ≤ K.faults out.new }
+{
+    write_answers(out, world.answers())?;
+    write_guests(out, world)
+}
+
+/// Writes the report of a world's replay.
+pub fn write_replay<K: Sink>(out: &mut K, world: &World) -> Result<(), WriteFault>
+    ensures wrote { OnOk result (K.written out.new ≡ behind (K.written out.old) (report_of false world.now.answers (reports_of world.now.state))) }
+    ensures prefix { OnErr result (WrotePrefix (K.written out.old) (report_of false world.now.answers (reports_of world.now.state)) (K.written out.new)) }
+    ensures fault { OnErr result (HasRisen (K.faults out.old) (K.faults out.new)) }
+    ensures never_falls { K.faults out.old ≤ K.faults out.new }
+{
+    write_body(out, world)?;
     write_end(out)
 }

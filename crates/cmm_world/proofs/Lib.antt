@@ -1,0 +1,10 @@
+pub mod ExecRuns
+pub mod Carried
+pub mod Kept
+pub mod Discards
+pub mod Unbound
+pub mod TurnRuns
+pub mod OpeningWorld
+pub mod Events
+pub mod HostSteps
+pub mod LegalRuns

@@ -1,1 +1,6 @@
-pub mod IsBuilt
+pub mod Exec
+pub mod WorldState
+pub mod Run
+pub mod Built
+pub mod WorldView
+pub mod Headline

@@ -1,10 +1,8 @@
-//! A guest that reads files through pages which its host may discard, and the replay of a schedule. It plays one guest
-//! with one processor by now, whose pages all have a frame.
+//! A world plays a scenario: its guests, their disks, and the one host that has their pages.
 #![tactic(auto)]
 
 mod built;
-mod guest;
-mod host;
+mod open;
 mod world;
 
 pub use built::is_built;

@@ -1,11 +1,38 @@
-use Rattle.std.proofs.Common.{◌∙◌, ap, inl, length}
+use Rattle.std.proofs.Common.{◌≡◌, ◌++◌, List, All, inl, ap, subst, sym, ◌∙◌, false}
+use Rattle.cmm_types.specs.declared.event.Event.{Event}
+use Rattle.cmm_types.specs.InRange.{EventInRange}
+use Rattle.cmm_report.specs.Report.{report_of}
+use Rattle.cmm_world.specs.WorldState.{WorldFit, opening_world}
+use Rattle.cmm_world.specs.WorldView.{WorldView, plans_of}
+use Rattle.cmm_world.specs.Run.{answers_of, world_after, run_of}
+use Rattle.cmm_world.specs.Headline.{NoStepDiscardsWrongly}
+use Rattle.cmm_world.proofs.LegalRuns.{legal_run, plans_opening}
+use Rattle.cmm2_cli.specs.declared.status.Status.TheVariants.{Done}
+use Rattle.cmm2_cli.specs.Reports.{reports_of}
+use Rattle.cmm2_cli.specs.Outcome.{Answers}
 use Rattle.cmm2_cli.proofs.replay.play.Goals as goal
+
+pub replay-requires-clause-range : goal.replay-requires-clause-range
+replay-requires-clause-range g c =
+    let plans : plans_of c.in-Ok.world.state ≡ c.args.plan.now.guests = ap (λ (v : WorldView). plans_of v.state) c.in-Ok.ensures ∙ plans_opening c.args.plan.now in
+    subst (λ (es : List Event). All (EventInRange (plans_of c.in-Ok.world.state)) es) (sym c.as_slice.ensures)
+    (subst (λ ps. All (EventInRange ps) c.args.plan.now.schedule) (sym plans) c.requires.in_range.schedule)
 
 pub returns : goal.returns
 returns g c =
+    let plan = c.args.plan.now in
+    let answers : c.replay.new.self.answers ≡ (run_of plan).0 =
+    c.replay.ensures.answers ∙ ap (λ (v : WorldView). v.answers ++ answers_of v.state c.as_slice.result.now) c.in-Ok.ensures ∙ ap (answers_of (opening_world plan)) c.as_slice.ensures in
+    let state : c.replay.new.self.state ≡ (run_of plan).1 =
+    c.replay.ensures.state ∙ ap (λ (v : WorldView). world_after v.state c.as_slice.result.now) c.in-Ok.ensures ∙ ap (world_after (opening_world plan)) c.as_slice.ensures in
+    let plans : plans_of (run_of plan).1 ≡ plans_of (opening_world plan) =
+    ap plans_of (sym state) ∙ c.replay.ensures.plans ∙ ap (λ (v : WorldView). plans_of v.state) c.in-Ok.ensures in
+    let discards : NoStepDiscardsWrongly (opening_world plan) plan.schedule =
+    subst (NoStepDiscardsWrongly (opening_world plan)) c.as_slice.ensures
+    (subst (λ (v : WorldView). NoStepDiscardsWrongly v.state c.as_slice.result.now) c.in-Ok.ensures c.replay.ensures.discards) in
     inl (record {
-      answers = c.as_slice-answers.result.now;
-      guest = record { journal = c.journal-journal.result.now; discards = c.discards-discards.result; faults = c.faults-faults.result };
-      all = ap length c.as_slice-answers.ensures.value ∙ c.in-Ok-replay.ensures ∙ ap length c.as_slice.ensures;
-      report = c.report.ensures;
+      report =
+          subst (λ w. Answers g.K.Sink.faults g.K.Sink.written c.args.out.now c.report.new.out (report_of false (run_of plan).0 (reports_of w)) Done c.report.result) state
+          (subst (λ list. Answers g.K.Sink.faults g.K.Sink.written c.args.out.now c.report.new.out (report_of false list (reports_of c.replay.new.self.state)) Done c.report.result) answers c.report.ensures);
+      run = legal_run plan plans (subst WorldFit state c.replay.ensures.fit) discards;
     })

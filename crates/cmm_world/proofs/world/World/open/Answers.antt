@@ -1,15 +1,23 @@
-use Rattle.std.proofs.Common.{◌∙◌, ap, arith, length}
-use Rattle.cmm_types.specs.InRange.{file_pages_of}
-use Rattle.cmm_io.specs.DiskState.{DiskState}
-use Rattle.cmm_io.proofs.DiskBlocks.{length-disk_of}
+use Rattle.std.proofs.Common.{◌≡◌, ◌∙◌, [], ap, subst, sym, length, map}
+use Rattle.guest_rules.specs.GuestState.{opening_guest}
+use Rattle.cmm_world.specs.WorldState.{WorldState, opening_disk, opening_world}
+use Rattle.cmm_world.specs.WorldView.{IsWorld}
+use Rattle.cmm_world.proofs.OpeningWorld.{opening_fits, opening_parts}
 use Rattle.cmm_world.proofs.world.World.open.Goals as goal
 
-pub invariant_of-result-clause-blocks : goal.invariant_of-result-clause-blocks
-invariant_of-result-clause-blocks c =
-    omega (
-      arith,
-      ap (λ (d : DiskState). length d.blocks) c.in_ok-open-2.ensures
-          ∙ length-disk_of c.as_slice-3.result.now c.index-as_slice-0.result.swap,
-      ap file_pages_of c.as_slice-3.ensures,
-      c.in_ok-open.ensures.files,
-    )
+state : (c : goal.In_ok-answers) →
+    ◌≡◌ {A = WorldState} (record { guests = c.in_ok-guests.guests.items; disks = c.in_ok-disks.disks.items; host = c.in_ok-host.host }) (opening_world c.args.plan.now)
+state c =
+    opening_parts c.args.plan.now c.in_ok-guests.guests.items c.in_ok-disks.disks.items c.in_ok-host.host
+    (c.in_ok-guests.ensures ∙ ap (map opening_guest) c.as_slice.ensures)
+    (c.in_ok-disks.ensures ∙ ap (map opening_disk) c.as_slice-2.ensures)
+    c.in_ok-host.ensures
+
+pub invariant_of-result : goal.invariant_of-result
+invariant_of-result c = (subst IsWorld (sym (state c)) (opening_fits c.args.plan.now c.requires.range c.requires.built), c.in_ok-answers.ensures.capacity)
+
+pub returns : goal.returns
+returns c =
+    let events : c.len-events.result ≡ length c.args.plan.now.schedule = c.len-events.ensures in
+    let answers : c.in_ok-answers.answers.items ≡ [] = c.in_ok-answers.ensures.items in
+    λ i. record { state = state c i; answers = answers i; events = events i }

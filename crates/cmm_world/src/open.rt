@@ -1,0 +1,109 @@
+// The parts of a world before its first event.
+ghost use Rattle.std.specs.Prelude.{◌≡◌, ◌<◌, ◌^◌, map, replicate, All, IfOk};
+ghost use Rattle.cmm_types.specs.InRange.{GuestInRange, ScenarioInRange, guest_pages_of};
+ghost use Rattle.cmm_io.specs.FailurePlan.{plan_of};
+ghost use Rattle.cmm_storage.specs.StorageView.{zeros};
+ghost use Rattle.guest_rules.specs.Built.{GuestIsBuilt};
+ghost use Rattle.guest_rules.specs.GuestState.{opening_guest};
+ghost use Rattle.cmm_world.specs.WorldState.{opening_disk, opening_host};
+
+use cmm_io::MemDisk;
+use cmm_pager::{MemBlock, MemPager};
+use cmm_types::{GuestPlan, Scenario};
+use guest_core::Guest;
+use host_plain::Host;
+use std::alloc::{AllocError, Global};
+
+/// A guest of each plan, before its first turn.
+pub fn open_guests(alloc: Global, plans: &[GuestPlan]) -> Result<Vec<Guest>, AllocError>
+    requires range { All GuestInRange plans.now }
+    requires built { All GuestIsBuilt plans.now }
+    ensures { IfOk result (λ guests. guests.items ≡ map opening_guest plans.now) }
+{
+    let mut guests = Vec::with_capacity(alloc, plans.len())?;
+    for plan in plans {
+        guests.push(Guest::open(alloc, plan)?)?;
+    }
+    Ok(guests)
+}
+
+// A guest's disk before its first call.
+#[tactic(auto, using(cmm_types::specs::RangeLaws::blocks_bound))]
+fn open_disk(alloc: Global, plan: &GuestPlan) -> Result<MemDisk, AllocError>
+    requires { GuestInRange plan.now }
+    ensures { IfOk result (λ disk. disk ≡ opening_disk plan.now) }
+{
+    MemDisk::open(
+        alloc,
+        plan.files.as_slice(),
+        plan.swap,
+        plan.disk_fail.as_slice(),
+    )
+}
+
+/// The disk of each guest.
+pub fn open_disks(alloc: Global, plans: &[GuestPlan]) -> Result<Vec<MemDisk>, AllocError>
+    requires range { All GuestInRange plans.now }
+    ensures { IfOk result (λ disks. disks.items ≡ map opening_disk plans.now) }
+{
+    let mut disks = Vec::with_capacity(alloc, plans.len())?;
+    for plan in plans {
+        disks.push(open_disk(alloc, plan)?)?;
+    }
+    Ok(disks)
+}
+
+fn page_counts(alloc: Global, plans: &[GuestPlan]) -> Result<Vec<u32>, AllocError>
+    ensures { IfOk result (λ counts. counts.items ≡ map (λ guest. guest.pages) plans.now) }
+{
+    let mut counts = Vec::with_capacity(alloc, plans.len())?;
+    for plan in plans {
+        counts.push(plan.pages)?;
+    }
+    Ok(counts)
+}
+
+// The pages of all guests together.
+fn pages_in_all(plans: &[GuestPlan]) -> u32
+    requires { guest_pages_of plans.now < 2 ^ 32 }
+    ensures { result ≡ guest_pages_of plans.now }
+{
+    let mut pages = 0;
+    for plan in plans {
+        pages += plan.pages;
+    }
+    pages
+}
+
+fn open_pagers(alloc: Global, plans: &[GuestPlan]) -> Result<Vec<MemPager>, AllocError>
+    ensures { IfOk result (λ pagers. pagers.items ≡ map (λ guest. plan_of guest.pager_fail) plans.now) }
+{
+    let mut pagers = Vec::with_capacity(alloc, plans.len())?;
+    for plan in plans {
+        pagers.push(MemPager::open(alloc, plan.pager_fail.as_slice())?)?;
+    }
+    Ok(pagers)
+}
+
+fn open_blocks(alloc: Global, count: usize) -> Result<Vec<MemBlock>, AllocError>
+    ensures { IfOk result (λ blocks. blocks.items ≡ replicate count zeros) }
+{
+    let mut blocks = Vec::with_capacity(alloc, count)?;
+    for _ in 0..count {
+        blocks.push(MemBlock::open(alloc)?)?;
+    }
+    Ok(blocks)
+}
+
+/// The host, with a paging block for each page of all guests.
+pub fn open_host(alloc: Global, plan: &Scenario) -> Result<Host, AllocError>
+    requires { ScenarioInRange plan.now }
+    ensures { IfOk result (λ host. host ≡ opening_host plan.now) }
+{
+    let plans = plan.guests.as_slice();
+    let counts = page_counts(alloc, plans)?;
+    let blocks = open_blocks(alloc, pages_in_all(plans) as usize)?;
+    let pagers = open_pagers(alloc, plans)?;
+    let own = MemPager::open(alloc, plan.pager_fail.as_slice())?;
+    Host::open(alloc, counts.as_slice(), plan.frames, blocks, pagers, own)
+}

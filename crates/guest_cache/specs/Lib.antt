@@ -1,0 +1,2 @@
+pub mod CacheView
+pub mod CacheLaws

@@ -1,0 +1,56 @@
+-- The runs of a processor's turns, one turn after another.
+use Rattle.std.proofs.Common.{◌≡◌, ◌<◌, ◌≤◌, ◌+◌, ◌-◌, ℕ, suc, length, refl, ap, sym, subst, ◌∙◌, arith}
+use Rattle.cmm_types.specs.declared.turn.Turn.{Turn}
+use Rattle.cmm_types.specs.declared.turn.Turn.TheVariants.{Moved}
+use Rattle.cmm_types.specs.declared.turn.Alone.{Alone}
+use Rattle.cmm_types.specs.declared.turn.Alone.TheVariants.{Idle}
+use Rattle.cmm_io.specs.DiskCall.{DiskCall}
+use Rattle.cmm_io.specs.DiskView.{DiskView}
+use Rattle.cmm_storage.specs.StorageCall.{StorageCall}
+use Rattle.cmm_storage.specs.StorageView.{StorageView}
+use Rattle.cmm_storage.specs.Program.{Program, done, Does}
+use Rattle.cmm_storage.specs.Runs.{does_bind}
+use Rattle.guest_rules.specs.GuestState.{GuestState}
+use Rattle.guest_rules.specs.Turns.{turn}
+use Rattle.guest_rules.specs.Alone.{most_turns, alone_after, alone_within}
+use Rattle.guest_rules.specs.Fit.{Fit}
+
+-- what follows a turn
+abbrev pub follows_turn : ℕ → ℕ → ℕ → GuestState → Turn → Program (GuestState × Alone)
+follows_turn left turns cpu h t = alone_after (λ q. alone_within left (turns + 1) q cpu) turns h t
+
+module _ {S D : Type 0} (ss : S → StorageCall → S → Type 0) (ds : D → DiskCall → D → Type 0) where
+  one_turn : (left turns cpu : ℕ) (g h : GuestState) (t : Turn) (s m s' : S) (d e d' : D) (b : GuestState × Alone)
+      → Does ss ds (turn g cpu) s d (h, t) m e → Does ss ds (follows_turn left turns cpu h t) m e b s' d' → Does ss ds (alone_within (suc left) turns g cpu) s d b s' d'
+  one_turn left turns cpu g h t s m s' d e d' b run next =
+      does_bind ss ds (turn g cpu) (λ went. follows_turn left turns cpu went.0 went.1) s d (h, t) m e b s' d' run next
+
+  -- a turn that moved, and the turns after it
+  pub moved_on : (turns cpu : ℕ) (g h : GuestState) (t : Turn) (s m s' : S) (d e d' : D) (b : GuestState × Alone)
+      → turns < most_turns → Does ss ds (turn g cpu) s d (h, t) m e → t ≡ Moved
+      → Does ss ds (alone_within (most_turns - (turns + 1)) (turns + 1) h cpu) m e b s' d' → Does ss ds (alone_within (most_turns - turns) turns g cpu) s d b s' d'
+  moved_on turns cpu g h t s m s' d e d' b below run moved next =
+      let left : suc (most_turns - (turns + 1)) ≡ most_turns - turns = omega arith in
+      subst (λ n. Does ss ds (alone_within n turns g cpu) s d b s' d') left
+      (one_turn (most_turns - (turns + 1)) turns cpu g h t s m s' d e d' b run (subst (λ x. Does ss ds (follows_turn (most_turns - (turns + 1)) turns cpu h x) m e b s' d') (sym moved) next))
+
+  -- the last turn
+  pub stopped : (turns cpu : ℕ) (g h : GuestState) (t x : Turn) (a : Alone) (s m : S) (d e : D)
+      → turns < most_turns → Does ss ds (turn g cpu) s d (h, t) m e → t ≡ x
+      → follows_turn (most_turns - (turns + 1)) turns cpu h x ≡ done (h, a) → Does ss ds (alone_within (most_turns - turns) turns g cpu) s d (h, a) m e
+  stopped turns cpu g h t x a s m d e below run is stops =
+      let left : suc (most_turns - (turns + 1)) ≡ most_turns - turns = omega arith in
+      subst (λ n. Does ss ds (alone_within n turns g cpu) s d (h, a) m e) left
+      (one_turn (most_turns - (turns + 1)) turns cpu g h t s m m d e e (h, a) run
+      (subst (λ p. Does ss ds p m e (h, a) m e) (sym (ap (follows_turn (most_turns - (turns + 1)) turns cpu h) is ∙ stops)) (refl, refl, refl)))
+
+  -- no turn is left
+  pub ran_out : (turns cpu : ℕ) (g : GuestState) (s : S) (d : D) → most_turns ≤ turns → Does ss ds (alone_within (most_turns - turns) turns g cpu) s d (g, Idle) s d
+  ran_out turns cpu g s d all =
+      let left : 0 ≡ most_turns - turns = omega arith in
+      subst (λ n. Does ss ds (alone_within n turns g cpu) s d (g, Idle) s d) left (refl, refl, refl)
+
+-- the processor is still there after a turn
+pub still_there : (g h : GuestState) (v w : StorageView) (d e : DiskView) (cpu : ℕ) → Fit g v d → Fit h w e → h.plan ≡ g.plan → cpu < length g.processors → cpu < length h.processors
+still_there g h v w d e cpu f f' plan below =
+    subst (λ n. cpu < n) (f.sizes.processors ∙ ap (λ p. length p.cpus) (sym plan) ∙ sym f'.sizes.processors) below

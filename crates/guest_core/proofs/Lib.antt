@@ -1,0 +1,4 @@
+mod Ready
+mod Opened
+mod OtherTurns
+mod AloneRuns

@@ -1,0 +1,144 @@
+ghost use Rattle.std.specs.Prelude.{◌≡◌, ◌<◌, ◌≤◌, length, None, Some, Err, true, Contains, IfSome};
+ghost use Rattle.cmm_types.specs.declared.page.TheConstants.{PAGE};
+ghost use Rattle.cmm_types.specs.declared.page.Usage.TheVariants.{S};
+ghost use Rattle.cmm_storage.specs.Program.{Does, DoesAlone};
+ghost use Rattle.guest_pages.specs.PagesView.{info_at};
+ghost use Rattle.guest_cache.specs.CacheView.{IsTag};
+ghost use Rattle.guest_rules.specs.Rows.{backing_at, give_up, fill_touched, fill_with, fill_from, fill};
+
+use cmm_io::Disk;
+use cmm_storage::{Busy, Storage, Trap};
+use cmm_types::{Cause, PAGE, Why};
+use essa_state::Order;
+use guest_hint::{forget, rehint};
+use guest_rules::{Filled, Parts};
+
+/// The block that the page's tag is read from.
+fn backing(parts: &Parts, page: u32) -> Option<u32>
+    requires page { page < length parts.now.pages.infos }
+    requires tag { IfSome (info_at parts.now.pages page).tag (λ tag. IsTag parts.now.cache tag) }
+    ensures { result ≡ backing_at parts.now page }
+{
+    match parts.pages.info(page).tag {
+        None => None,
+        Some(tag) => parts.cache.backing(tag),
+    }
+}
+
+/// Frees the held page, which couldn't be filled, and gives it back.
+#[tactic(auto, using(cmm_storage::specs::Runs::runs))]
+fn give_up<St: Storage>(parts: &mut Parts, st: &mut St, page: u32, cause: Cause) -> Filled
+    requires page { page < length parts.old.pages.infos }
+    requires not_free { Contains parts.old.pages.free page → ⊥ }
+    requires tag { IfSome (info_at parts.old.pages page).tag (λ tag. IsTag parts.old.cache tag) }
+    requires held { (St.view st.old).held ≡ Some page }
+    ensures row { DoesAlone St.step (give_up parts.old page cause) st.old (parts.new, result) st.new }
+    ensures none_held { (St.view st.new).held ≡ None }
+{
+    st.order(page, Order::SetUnused);
+    st.put(page);
+    forget(parts, page);
+    Filled::Fail(cause)
+}
+
+/// Stores all bytes of the held page, which is stable and was touched. It is up to date and unlocked then. The
+/// store sets the change bit, which is dropped.
+#[tactic(auto, using(cmm_storage::specs::Runs::runs))]
+fn fill_with<St: Storage>(parts: &mut Parts, st: &mut St, page: u32, bytes: &[u8]) -> Filled
+    requires page { page < length parts.old.pages.infos }
+    requires held { (St.view st.old).held ≡ Some page }
+    requires touched { (St.view st.old).touched ≡ true }
+    requires stable { ((St.view st.old).values page).usage ≡ S }
+    requires whole { length bytes.now ≡ PAGE }
+    ensures row { DoesAlone St.step (fill_with parts.old page bytes.now) st.old (parts.new, result) st.new }
+    ensures none_held { (St.view st.new).held ≡ None }
+{
+    st.store(page, 0, bytes);
+    st.take_change(page);
+    parts.pages.set_uptodate(page, true);
+    parts.pages.set_owner(page, None);
+    rehint(parts, st, page);
+    st.put(page);
+    Filled::Done
+}
+
+/// The held page can't be filled now, or not at all.
+#[tactic(auto, using(cmm_storage::specs::Runs::runs))]
+fn miss<St: Storage>(parts: &mut Parts, st: &mut St, page: u32, trap: Trap) -> Filled
+    requires page { page < length parts.old.pages.infos }
+    requires not_free { Contains parts.old.pages.free page → ⊥ }
+    requires tag { IfSome (info_at parts.old.pages page).tag (λ tag. IsTag parts.old.cache tag) }
+    requires held { (St.view st.old).held ≡ Some page }
+    ensures row { DoesAlone St.step (fill_touched parts.old page (Err trap)) st.old (parts.new, result) st.new }
+    ensures none_held { (St.view st.new).held ≡ None }
+{
+    match trap {
+        Trap::Discarded => give_up(parts, st, page, Cause::Paging),
+        Trap::Paging => give_up(parts, st, page, Cause::Paging),
+        Trap::NoFrame { looks } => {
+            st.put(page);
+            Filled::Again {
+                why: Why::NoFrame { looks },
+            }
+        }
+    }
+}
+
+/// Fills the held page, which is stable and was touched, from a block, or with zeros where there is none.
+#[tactic(auto, using(cmm_storage::specs::Runs::runs, guest_hint::specs::RunLaws::does_alone), unfolding(cmm_storage::specs::StorageView::zeros))]
+fn fill_from<St: Storage, D: Disk>(
+    parts: &mut Parts,
+    st: &mut St,
+    disk: &mut D,
+    page: u32,
+    block: Option<u32>,
+) -> Filled
+    requires page { page < length parts.old.pages.infos }
+    requires not_free { Contains parts.old.pages.free page → ⊥ }
+    requires tag { IfSome (info_at parts.old.pages page).tag (λ tag. IsTag parts.old.cache tag) }
+    requires block { IfSome block (λ number. number < (D.view disk.old).count) }
+    requires held { (St.view st.old).held ≡ Some page }
+    requires touched { (St.view st.old).touched ≡ true }
+    requires stable { ((St.view st.old).values page).usage ≡ S }
+    ensures row { Does St.step D.step (fill_from parts.old page block) st.old disk.old (parts.new, result) st.new disk.new }
+    ensures none_held { (St.view st.new).held ≡ None }
+{
+    let mut bytes = [0u8; PAGE];
+    match block {
+        None => fill_with(parts, st, page, &bytes),
+        Some(number) => match disk.read(number, &mut bytes) {
+            Err(_) => give_up(parts, st, page, Cause::Disk),
+            Ok(()) => fill_with(parts, st, page, &bytes),
+        },
+    }
+}
+
+/// Fills a locked page with the bytes of its tag, from the guest's disk or with zeros. Where it fails, the page is
+/// free again.
+#[tactic(auto, using(cmm_storage::specs::Runs::runs, guest_hint::specs::RunLaws::does_alone), unfolding(guest_rules::specs::Rows::fill))]
+pub fn fill<St: Storage, D: Disk>(parts: &mut Parts, st: &mut St, disk: &mut D, page: u32) -> Filled
+    requires page { page < length parts.old.pages.infos }
+    requires pages { page < (St.view st.old).pages }
+    requires not_free { Contains parts.old.pages.free page → ⊥ }
+    requires tag { IfSome (info_at parts.old.pages page).tag (λ tag. IsTag parts.old.cache tag) }
+    requires block { IfSome (backing_at parts.old page) (λ block. block < (D.view disk.old).count) }
+    requires none_held { (St.view st.old).held ≡ None }
+    ensures row { Does St.step D.step (fill parts.old page) st.old disk.old (parts.new, result) st.new disk.new }
+    ensures none_held { (St.view st.new).held ≡ None }
+{
+    match st.take(page) {
+        Err(Busy { word }) => Filled::Again {
+            why: Why::Busy { page, word },
+        },
+        Ok(()) => {
+            st.order(page, Order::SetStableResident);
+            match st.touch(page) {
+                Err(trap) => miss(parts, st, page, trap),
+                Ok(()) => {
+                    let block = backing(parts, page);
+                    fill_from(parts, st, disk, page, block)
+                }
+            }
+        }
+    }
+}

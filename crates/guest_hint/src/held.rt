@@ -1,0 +1,100 @@
+ghost use Rattle.std.specs.Prelude.{◌≡◌, ◌<◌, length, Some, Contains, IfSome, OnOk};
+ghost use Rattle.cmm_types.specs.declared.page.Usage.TheVariants.{S};
+ghost use Rattle.cmm_storage.specs.Program.{DoesAlone};
+ghost use Rattle.guest_pages.specs.PagesView.{info_at};
+ghost use Rattle.guest_cache.specs.CacheView.{IsTag};
+ghost use Rattle.guest_rules.specs.Hint.{hint};
+ghost use Rattle.guest_rules.specs.Rows.{freed, handler, tell, rehint, make_stable};
+
+use crate::hint::hint_of;
+use cmm_storage::Storage;
+use cmm_types::Usage;
+use essa_state::Order;
+use guest_rules::{Gone, Parts};
+
+/// Takes everything off a page, which is the next free one then.
+#[tactic(auto, unfolding(guest_rules::specs::Rows::freed))]
+pub fn forget(parts: &mut Parts, page: u32)
+    requires page { page < length parts.old.pages.infos }
+    requires not_free { Contains parts.old.pages.free page → ⊥ }
+    requires tag { IfSome (info_at parts.old.pages page).tag (λ tag. IsTag parts.old.cache tag) }
+    ensures { parts.new ≡ freed parts.old page }
+{
+    if let Some(tag) = parts.pages.info(page).tag {
+        parts.cache.remove(tag);
+    }
+    parts.pages.clear(page);
+    parts.pages.push(page);
+}
+
+/// The handler of a held page that was discarded: the page is free, and the host is told that it is unused. One
+/// fault is counted.
+#[tactic(auto, unfolding(guest_rules::specs::Rows::handler, guest_rules::specs::Rows::handled))]
+pub fn discard_handler<St: Storage>(parts: &mut Parts, st: &mut St, page: u32)
+    requires page { page < length parts.old.pages.infos }
+    requires not_free { Contains parts.old.pages.free page → ⊥ }
+    requires tag { IfSome (info_at parts.old.pages page).tag (λ tag. IsTag parts.old.cache tag) }
+    requires held { (St.view st.old).held ≡ Some page }
+    ensures row { DoesAlone St.step (handler parts.old page) st.old parts.new st.new }
+    ensures held { (St.view st.new).held ≡ Some page }
+{
+    st.order(page, Order::SetUnused);
+    forget(parts, page);
+    parts.faults = parts.faults.saturating_add(1);
+}
+
+/// Tells the host the hint of a held page.
+#[tactic(auto, using(cmm_storage::specs::Runs::runs), unfolding(guest_rules::specs::Rows::tell))]
+fn tell<St: Storage>(parts: &Parts, st: &mut St, page: u32)
+    requires page { page < length parts.now.pages.infos }
+    requires held { (St.view st.old).held ≡ Some page }
+    ensures row { DoesAlone St.step (tell (hint (info_at parts.now.pages page)) parts.now page) st.old parts.now st.new }
+    ensures held { (St.view st.new).held ≡ Some page }
+{
+    match hint_of(&parts.pages.info(page)) {
+        Usage::S | Usage::U => {}
+        Usage::P => {
+            st.order(page, Order::SetPotential);
+        }
+        Usage::V => {
+            st.order(page, Order::SetVolatile);
+        }
+    }
+}
+
+/// Moves the change bit of a held stable page with a tag into what is known of the page, and tells the host its
+/// hint.
+#[tactic(auto, using(cmm_storage::specs::Runs::runs), unfolding(guest_rules::specs::Rows::rehint))]
+pub fn rehint<St: Storage>(parts: &mut Parts, st: &mut St, page: u32)
+    requires page { page < length parts.old.pages.infos }
+    requires held { (St.view st.old).held ≡ Some page }
+    ensures row { DoesAlone St.step (rehint parts.old page) st.old parts.new st.new }
+    ensures held { (St.view st.new).held ≡ Some page }
+{
+    if st.take_change(page) {
+        parts.pages.set_dirty(page, true);
+        tell(parts, st, page);
+    } else {
+        tell(parts, st, page);
+    }
+}
+
+/// Makes a held page stable. A page that was discarded goes through its handler; `Gone` comes exactly there.
+#[tactic(auto, using(cmm_storage::specs::Runs::runs), unfolding(guest_rules::specs::Rows::make_stable))]
+pub fn make_stable<St: Storage>(parts: &mut Parts, st: &mut St, page: u32) -> Result<(), Gone>
+    requires page { page < length parts.old.pages.infos }
+    requires not_free { Contains parts.old.pages.free page → ⊥ }
+    requires tag { IfSome (info_at parts.old.pages page).tag (λ tag. IsTag parts.old.cache tag) }
+    requires held { (St.view st.old).held ≡ Some page }
+    ensures row { DoesAlone St.step (make_stable parts.old page) st.old (parts.new, result) st.new }
+    ensures held { (St.view st.new).held ≡ Some page }
+    ensures stable { OnOk result (((St.view st.new).values page).usage ≡ S) }
+    ensures same { OnOk result (parts.new ≡ parts.old) }
+{
+    if st.order(page, Order::SetStableIf).done {
+        Ok(())
+    } else {
+        discard_handler(parts, st, page);
+        Err(Gone)
+    }
+}

@@ -1,0 +1,90 @@
+// Reads of a guest's only page, over a storage whose host does what a list says.
+ghost use Rattle.std.specs.Prelude.{◌≡◌, ◌<◌, None};
+
+use crate::read_page;
+use cmm_storage::{Noise, NoisyStorage, Storage};
+use cmm_types::{Bytes64, Cause, Why};
+use essa_state::Order;
+use guest_cache::Cache;
+use guest_pages::Pages;
+use guest_rules::{Missed, Parts};
+use std::alloc::{AllocError, Global};
+use std::test::Fail;
+
+/// Touches the page, if the host lets it, and leaves it volatile, else unused.
+fn prepare<St: Storage>(st: &mut St)
+    requires pages { 0 < (St.view st.old).pages }
+    requires none_held { (St.view st.old).held ≡ None }
+    ensures pages { (St.view st.new).pages ≡ (St.view st.old).pages }
+    ensures none_held { (St.view st.new).held ≡ None }
+{
+    if st.take(0).is_err() {
+        return;
+    }
+    st.order(0, Order::SetStable);
+    match st.touch(0) {
+        Ok(()) => {
+            st.order(0, Order::SetVolatile);
+            st.put(0);
+        }
+        Err(_) => {
+            st.order(0, Order::SetUnused);
+            st.put(0);
+        }
+    }
+}
+
+/// What a read of four bytes of the page answers, the next free page then, and the count of faults. The first two
+/// noises come before the read.
+#[tactic(auto, unfolding(guest_pages::specs::PagesView::popped))]
+fn read(
+    alloc: Global,
+    noises: [Noise; 4],
+) -> Result<(Result<Bytes64, Missed>, Option<u32>, u64), AllocError> {
+    let mut parts = Parts {
+        pages: Pages::open(alloc, 1)?,
+        cache: Cache::open(alloc, &[], 0, 0)?,
+        faults: 0,
+    };
+    parts.pages.pop();
+    let mut storage = NoisyStorage::open(alloc, 1, Vec::from_array(alloc, noises)?)?;
+    prepare(&mut storage);
+    let answer = read_page(&mut parts, &mut storage, 0, 4092, 4);
+    Ok((answer, parts.pages.top(), parts.faults))
+}
+
+#[test]
+fn a_reader_meets_every_answer(rt: HostRuntime) -> Result<(), Fail> {
+    use Noise::{Busy, Calm, Discard, NoFrame, PagerFails};
+    let alloc = rt.alloc();
+    let zeros = Bytes64::from_slice(&[0; 4]).unwrap();
+    let no_frame = Missed::Again {
+        why: Why::NoFrame { looks: 0 },
+    };
+    let paging = Missed::Fail(Cause::Paging);
+    assert_eq!(rt;
+        read(alloc, [Calm, Calm, Calm, Calm])?,
+        (Ok(zeros), None, 0)
+    );
+    assert_eq!(rt;
+        read(alloc, [Calm, Calm, Discard, Calm])?,
+        (Err(Missed::Gone), Some(0), 1)
+    );
+    assert_eq!(rt;
+        read(alloc, [Calm, PagerFails, Calm, NoFrame])?,
+        (Err(no_frame), None, 0)
+    );
+    assert_eq!(rt;
+        read(alloc, [Calm, PagerFails, Calm, PagerFails])?,
+        (Err(paging), None, 0)
+    );
+    let (answer, free, faults) = read(alloc, [Calm, Calm, Busy, Calm])?;
+    let busy = matches!(
+        answer,
+        Err(Missed::Again {
+            why: Why::Busy { page: 0, word: _ }
+        })
+    );
+    assert_eq!(rt; (busy, free, faults), (true, None, 0));
+    Ok(())
+}

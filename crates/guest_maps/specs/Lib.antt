@@ -1,0 +1,7 @@
+pub mod MapsView
+pub mod SlotTable
+pub mod EntryChains
+pub mod FirstPlace
+pub mod SlotLaws
+pub mod EntryCounts
+pub mod MapsLaws

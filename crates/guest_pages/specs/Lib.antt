@@ -1,0 +1,2 @@
+pub mod PagesView
+pub mod PagesLaws

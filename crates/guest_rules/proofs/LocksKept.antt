@@ -1,0 +1,92 @@
+-- The locks stay fit: where a processor locks a free page, and where a page isn't locked any more.
+use Rattle.std.proofs.Common.{◌≡◌, ◌≢◌, ◌<◌, ℕ, true, false, length, Some, None, ap, sym, ◌∙◌, inl, inr, subst}
+use Rattle.std.proofs.lemmas.Bool.{cases_eq}
+use Rattle.cmm_types.specs.declared.page.Tag.{Tag}
+use Rattle.cmm_types.specs.declared.command.Op.TheVariants.{Read}
+use Rattle.cmm_flat.specs.Legal.{command_of}
+use Rattle.guest_pages.specs.declared.info.PageInfo.{PageInfo}
+use Rattle.guest_pages.specs.PagesView.{info_at}
+use Rattle.guest_rules.specs.declared.processor.Phase.TheVariants.{Start, Fill}
+use Rattle.guest_rules.specs.declared.processor.Processor.{Processor}
+use Rattle.guest_rules.specs.GuestState.{GuestState, processor_at}
+use Rattle.guest_rules.specs.Fit.{IsFilling, LocksFit}
+use Rattle.guest_rules.proofs.Changes.{InfoChange, PhaseChange}
+
+-- what another processor fills is as it was
+pub filling_other : (g h : GuestState) (q i : ℕ) → h.plan ≡ g.plan → processor_at h q ≡ processor_at g q → length h.parts.pages.infos ≡ length g.parts.pages.infos → info_at h.parts.pages i ≡ info_at g.parts.pages i → IsFilling g q i → IsFilling h q i
+filling_other g h q i plan processor size info k = record {
+  file = k.file;
+  off = k.off;
+  len = k.len;
+  command = rw (plan, processor) k.command;
+  below = rw size k.below;
+  owner = rw info k.owner;
+  stale = rw info k.stale;
+  tag = k.tag;
+  tagged = rw info k.tagged;
+}
+
+-- a processor in phase Start locks a page that nobody has locked
+pub LocksFit-begun : (g h : GuestState) (cpu page file off len : ℕ) (info : PageInfo) (tag : Tag) → LocksFit g → h.plan ≡ g.plan → cpu < length g.processors → page < length g.parts.pages.infos
+    → command_of g.plan cpu (processor_at g cpu).place ≡ Some (Read file off len) → (processor_at g cpu).phase ≡ Start → (info_at g.parts.pages page).owner ≡ None
+    → InfoChange g.parts.pages h.parts.pages page info → PhaseChange g.processors h.processors cpu (Fill page) → info.owner ≡ Some cpu → info.uptodate ≡ false → info.tag ≡ Some tag → LocksFit h
+LocksFit-begun g h cpu page file off len info tag f plan lt below command start unlocked change phase owner stale tagged = record {
+  filling = λ q i e. elim (cases_eq q cpu) [
+    | inl z ↦
+        let same : page ≡ i = let both : Fill page ≡ Fill i = sym (ap (λ (p : Processor). p.phase) phase.here) ∙ ap (λ x. (processor_at h x).phase) (sym z) ∙ e in cc in
+        (rw (phase.size, z) lt, subst (λ x. IsFilling h x i) (sym z) (subst (λ x. IsFilling h cpu x) same mine))
+    | inr n ↦
+        let was = f.filling q i (ap (λ (p : Processor). p.phase) (sym (phase.others q n)) ∙ e) in
+        let m : i ≢ page = λ z. let bad : None ≡ Some q = sym unlocked ∙ ap (λ x. (info_at g.parts.pages x).owner) (sym z) ∙ was.1.owner in cc in
+        (rw phase.size was.0, filling_other g h q i plan (phase.others q n) change.size (change.others i m) was.1)
+  ];
+  locked = λ q i e. elim (cases_eq i page) [
+    | inl z ↦
+        let same : cpu ≡ q = let both : Some cpu ≡ Some q = sym owner ∙ ap (λ (x : PageInfo). x.owner) (sym change.here) ∙ ap (λ x. (info_at h.parts.pages x).owner) (sym z) ∙ e in cc in
+        ap (λ x. (processor_at h x).phase) (sym same) ∙ ap (λ (p : Processor). p.phase) phase.here ∙ ap (λ x. Fill x) (sym z)
+    | inr m ↦
+        let was = f.locked q i (ap (λ (x : PageInfo). x.owner) (sym (change.others i m)) ∙ e) in
+        let n : q ≢ cpu = λ z. let bad : Start ≡ Fill i = sym start ∙ ap (λ x. (processor_at g x).phase) (sym z) ∙ was in cc in
+        ap (λ (p : Processor). p.phase) (phase.others q n) ∙ was
+  ];
+  stale = λ i t e none. elim (cases_eq i page) [
+    | inl z ↦ let bad : Some cpu ≡ None = sym owner ∙ ap (λ (x : PageInfo). x.owner) (sym change.here) ∙ ap (λ x. (info_at h.parts.pages x).owner) (sym z) ∙ none in absurd cc
+    | inr m ↦ rw (change.others i m) (f.stale i t (rw (change.others i m) at e) (rw (change.others i m) at none))
+  ];
+}
+  where
+    mine : IsFilling h cpu page
+    mine = record {
+      file = file;
+      off = off;
+      len = len;
+      command = rw (plan, phase.here) command;
+      below = rw change.size below;
+      owner = rw change.here owner;
+      stale = rw change.here stale;
+      tag = tag;
+      tagged = rw change.here tagged;
+    }
+
+-- a page isn't locked any more, and its processor, if there is one, is in phase Start
+pub LocksFit-released : (g h : GuestState) (cpu page : ℕ) (info : PageInfo) → LocksFit g → h.plan ≡ g.plan → InfoChange g.parts.pages h.parts.pages page info → PhaseChange g.processors h.processors cpu Start → info.owner ≡ None
+    → ((tag : Tag) → info.tag ≡ Some tag → info.uptodate ≡ true) → ((q : ℕ) → (processor_at g q).phase ≡ Fill page → q ≡ cpu) → ((i : ℕ) → (processor_at g cpu).phase ≡ Fill i → i ≡ page) → LocksFit h
+LocksFit-released g h cpu page info f plan change phase owner stale only own = record {
+  filling = λ q i e.
+      let n : q ≢ cpu = λ z. let bad : Start ≡ Fill i = sym (ap (λ (p : Processor). p.phase) phase.here) ∙ ap (λ x. (processor_at h x).phase) (sym z) ∙ e in cc in
+      let before : (processor_at g q).phase ≡ Fill i = ap (λ (p : Processor). p.phase) (sym (phase.others q n)) ∙ e in
+      let m : i ≢ page = λ z. n (only q (before ∙ ap (λ x. Fill x) z)) in
+      let was = f.filling q i before in
+      (rw phase.size was.0, filling_other g h q i plan (phase.others q n) change.size (change.others i m) was.1);
+  locked = λ q i e. elim (cases_eq i page) [
+    | inl z ↦ let bad : None ≡ Some q = sym owner ∙ ap (λ (x : PageInfo). x.owner) (sym change.here) ∙ ap (λ x. (info_at h.parts.pages x).owner) (sym z) ∙ e in absurd cc
+    | inr m ↦
+        let was = f.locked q i (ap (λ (x : PageInfo). x.owner) (sym (change.others i m)) ∙ e) in
+        let n : q ≢ cpu = λ z. m (own i (ap (λ x. (processor_at g x).phase) (sym z) ∙ was)) in
+        ap (λ (p : Processor). p.phase) (phase.others q n) ∙ was
+  ];
+  stale = λ i t e none. elim (cases_eq i page) [
+    | inl z ↦ rw (z, change.here) (stale t (ap (λ (x : PageInfo). x.tag) (sym change.here) ∙ ap (λ x. (info_at h.parts.pages x).tag) (sym z) ∙ e))
+    | inr m ↦ rw (change.others i m) (f.stale i t (rw (change.others i m) at e) (rw (change.others i m) at none))
+  ];
+}

@@ -1,0 +1,145 @@
+-- What fit says of one page, its info and its value; what the host may do leaves it.
+use Rattle.std.proofs.Common.{◌≡◌, ◌<◌, ℕ, true, false, List, length, Some, None, refl, ap, sym, ◌∙◌, inl, inr, arith, subst}
+use Rattle.std.specs.FinMap as finite
+use Rattle.std.proofs.lemmas.List.{get_or_past}
+use Rattle.std.proofs.lemmas.Bool.{cases_lt}
+use Rattle.cmm_types.specs.declared.page.Usage.TheVariants.{U}
+use Rattle.cmm_types.specs.declared.page.Tag.{Tag}
+use Rattle.cmm_types.specs.declared.page.Tag.TheVariants.{File, Anon}
+use Rattle.cmm_io.specs.DiskView.{DiskView, AreBlocks}
+use Rattle.cmm_flat.specs.State.{FlatState}
+use Rattle.essa_state.specs.PageValue.{PageValue, Bytes, IsValue, MayBecome, StandsWith, is_lost, is_blank}
+use Rattle.essa_state.specs.PageValueLaws.{MayBecome-is_value}
+use Rattle.cmm_storage.specs.StorageView.{StorageView}
+use Rattle.guest_pages.specs.declared.info.PageInfo.{PageInfo}
+use Rattle.guest_pages.specs.PagesView.{PagesView, free_info, info_at}
+use Rattle.guest_cache.specs.CacheView.{CacheView}
+use Rattle.guest_rules.specs.declared.parts.Parts.{Parts}
+use Rattle.guest_rules.specs.Hint.{hint}
+use Rattle.guest_rules.specs.Fit.{MappingsFit, HintsFit, ContentsFit, backing}
+use Rattle.guest_rules.proofs.ValueLaws.{hint-free, hint-tagged, may-usage, may-unchanged}
+
+pub record PageFits (cache : CacheView) (d : DiskView) (info : PageInfo) (value : PageValue) : Type 0 where
+  pub unpinned : info.pins ≡ 0
+  pub unshown : info.writers ≡ 0
+  pub clean : info.dirty ≡ false
+  pub of_files : (tag : Tag) → info.tag ≡ Some tag → (file : ℕ) × (index : ℕ) × (tag ≡ File file index)
+  pub unchanged : value.changed ≡ false
+  pub is_value : IsValue value
+  pub hinted : value.usage ≡ hint info
+  pub not_blank : (tag : Tag) → info.tag ≡ Some tag → info.uptodate ≡ true → is_blank value.contents ≡ false
+  pub same : (tag : Tag) → info.tag ≡ Some tag → info.uptodate ≡ true → is_lost value.contents ≡ false → value.contents ≡ Bytes (backing cache d tag)
+
+-- the host may move the page
+pub PageFits-may : (cache : CacheView) (d : DiskView) (info : PageInfo) (x y : PageValue) → PageFits cache d info x → MayBecome x y → PageFits cache d info y
+PageFits-may cache d info x y s may = record {
+  unpinned = s.unpinned;
+  unshown = s.unshown;
+  clean = s.clean;
+  of_files = s.of_files;
+  unchanged = may-unchanged x y may s.unchanged;
+  is_value = MayBecome-is_value x y s.is_value may;
+  hinted = may-usage x y may ∙ s.hinted;
+  not_blank = λ tag t u. blank tag t u may;
+  same = λ tag t u. bytes tag t u may;
+}
+  where
+    tagged : (tag : Tag) → info.tag ≡ Some tag → x.usage ≡ U → ⊥
+    tagged tag t u = hint-tagged info tag t (sym s.hinted ∙ u)
+
+    blank : (tag : Tag) → info.tag ≡ Some tag → info.uptodate ≡ true → MayBecome x y → is_blank y.contents ≡ false
+    blank tag t u (inl e) = ap (λ (z : PageValue). is_blank z.contents) e ∙ s.not_blank tag t u
+    blank tag t u (inr (inl lost)) = ap (λ (z : PageValue). is_blank z.contents) lost.value
+    blank tag t u (inr (inr other)) = absurd (tagged tag t other.unused)
+
+    bytes : (tag : Tag) → info.tag ≡ Some tag → info.uptodate ≡ true → MayBecome x y → is_lost y.contents ≡ false → y.contents ≡ Bytes (backing cache d tag)
+    bytes tag t u (inl e) there = ap (λ (z : PageValue). z.contents) e ∙ s.same tag t u (ap (λ (z : PageValue). is_lost z.contents) (sym e) ∙ there)
+    bytes tag t u (inr (inl lost)) there = let bad : true ≡ false = ap (λ (z : PageValue). is_lost z.contents) (sym lost.value) ∙ there in absurd cc
+    bytes tag t u (inr (inr other)) there = absurd (tagged tag t other.unused)
+
+-- what backs a tag depends on the files and the blocks
+pub backing-same : (old new : CacheView) (d e : DiskView) (tag : Tag) → new.files ≡ old.files → e.blocks ≡ d.blocks → backing new e tag ≡ backing old d tag
+backing-same old new d e (File file index) files blocks = rw (files, blocks) refl
+backing-same old new d e (Anon slot index) files blocks = refl
+
+pub PageFits-same : (old new : CacheView) (d e : DiskView) (info : PageInfo) (x : PageValue) → new.files ≡ old.files → e.blocks ≡ d.blocks → PageFits old d info x → PageFits new e info x
+PageFits-same old new d e info x files blocks s = record {
+  unpinned = s.unpinned;
+  unshown = s.unshown;
+  clean = s.clean;
+  of_files = s.of_files;
+  unchanged = s.unchanged;
+  is_value = s.is_value;
+  hinted = s.hinted;
+  not_blank = s.not_blank;
+  same = λ tag t u there. s.same tag t u there ∙ ap (λ b. Bytes b) (sym (backing-same old new d e tag files blocks));
+}
+
+-- a free page
+pub PageFits-free : (cache : CacheView) (d : DiskView) (x : PageValue) → x.usage ≡ U → x.changed ≡ false → StandsWith x.contents U false → PageFits cache d free_info x
+PageFits-free cache d x usage changed stands = record {
+  unpinned = refl;
+  unshown = refl;
+  clean = refl;
+  of_files = λ tag t. absurd cc;
+  unchanged = changed;
+  is_value = rw (usage, changed) stands;
+  hinted = usage ∙ sym hint-free;
+  not_blank = λ tag t u. absurd cc;
+  same = λ tag t u there. absurd cc;
+}
+
+-- fit of each page
+pub record EachPageFits (parts : Parts) (v : StorageView) (d : DiskView) : Type 0 where
+  pub size : length parts.pages.infos ≡ v.pages
+  pub each : (page : ℕ) → page < v.pages → PageFits parts.cache d (info_at parts.pages page) (v.values page)
+
+pub EachPageFits-from : (flat : FlatState) (parts : Parts) (v : StorageView) (d : DiskView) → length parts.pages.infos ≡ v.pages → MappingsFit flat parts v → HintsFit parts v → ContentsFit parts v d → EachPageFits parts v d
+EachPageFits-from flat parts v d size mappings hints contents = record {
+  size = size;
+  each = λ page below. record {
+    unpinned = mappings.unpinned page;
+    unshown = mappings.unshown page;
+    clean = mappings.clean page;
+    of_files = mappings.of_files page;
+    unchanged = mappings.unchanged page below;
+    is_value = hints.values page below;
+    hinted = hints.hints page below;
+    not_blank = λ tag t u. contents.not_blank page tag below t u;
+    same = λ tag t u there. contents.same page tag below t u (mappings.clean page) (mappings.unchanged page below) there;
+  };
+}
+
+-- what holds of the free info and of each page below the count holds of every page
+pub every_info : (Fits : PageInfo → Type 0) (pages : PagesView) (count : ℕ) → length pages.infos ≡ count → Fits free_info → ((page : ℕ) → page < count → Fits (info_at pages page)) → (page : ℕ) → Fits (info_at pages page)
+every_info Fits pages count size free each page = elim (cases_lt page count) [
+  | inl below ↦ each page below
+  | inr past ↦ subst Fits (sym (get_or_past pages.infos page free_info (omega (arith, size)))) free
+]
+
+pub MappingsFit-from : (flat : FlatState) (parts : Parts) (v : StorageView) (d : DiskView) → flat.mappings ≡ finite.empty → EachPageFits parts v d → MappingsFit flat parts v
+MappingsFit-from flat parts v d none fits = record {
+  none_live = none;
+  unpinned = every_info (λ info. info.pins ≡ 0) parts.pages v.pages fits.size refl (λ page below. (fits.each page below).unpinned);
+  unshown = every_info (λ info. info.writers ≡ 0) parts.pages v.pages fits.size refl (λ page below. (fits.each page below).unshown);
+  clean = every_info (λ info. info.dirty ≡ false) parts.pages v.pages fits.size refl (λ page below. (fits.each page below).clean);
+  unchanged = λ page below. (fits.each page below).unchanged;
+  of_files = every_info (λ info. (tag : Tag) → info.tag ≡ Some tag → (file : ℕ) × (index : ℕ) × (tag ≡ File file index)) parts.pages v.pages fits.size (λ tag t. absurd cc) (λ page below. (fits.each page below).of_files);
+}
+
+pub HintsFit-from : (parts : Parts) (v : StorageView) (d : DiskView) → v.held ≡ None → EachPageFits parts v d → HintsFit parts v
+HintsFit-from parts v d none fits = record {
+  none_held = none;
+  values = λ page below. (fits.each page below).is_value;
+  hints = λ page below. (fits.each page below).hinted;
+  volatile = λ page below usage. (fits.each page below).unchanged;
+}
+
+pub ContentsFit-from : (parts : Parts) (v : StorageView) (d : DiskView) → v.tells ≡ true → (blocks : List (List ℕ)) → d.blocks ≡ Some blocks → AreBlocks d.count d.blocks → EachPageFits parts v d → ContentsFit parts v d
+ContentsFit-from parts v d tells blocks told are fits = record {
+  tells = tells;
+  told = (blocks, told);
+  blocks = are;
+  not_blank = λ page tag below t u. (fits.each page below).not_blank tag t u;
+  same = λ page tag below t u clean unchanged there. (fits.each page below).same tag t u there;
+}

@@ -1,0 +1,64 @@
+-- What each change of the tables leaves: a page begun, handled after a discard, freed after a failure, filled.
+use Rattle.std.proofs.Common.{◌≡◌, ◌<◌, ℕ, true, false, ◌∷◌, drop, length, Some, None, refl, ap, ◌∙◌}
+use Rattle.cmm_types.specs.declared.page.Tag.{Tag}
+use Rattle.guest_pages.specs.declared.info.PageInfo.{PageInfo}
+use Rattle.guest_pages.specs.PagesView.{PagesView, info_at, free_info, with_info, with_owner, with_uptodate, popped, pushed}
+use Rattle.guest_cache.specs.CacheView.{without_page}
+use Rattle.guest_rules.specs.declared.parts.Parts.{Parts}
+use Rattle.guest_rules.specs.Rows.{freed, filled}
+use Rattle.guest_rules.specs.Turns.{begun}
+use Rattle.guest_rules.proofs.Changes.{InfoChange, change-with_info, InfoChange-trans}
+
+-- a page that was begun is locked, and not up to date
+abbrev pub begun_info : Tag → ℕ → PageInfo
+begun_info tag cpu = record { tag = Some tag; uptodate = false; dirty = false; owner = Some cpu; pins = 0; writers = 0 }
+
+-- a filled page is up to date, and not locked
+abbrev pub filled_info : PageInfo → PageInfo
+filled_info info = record info { uptodate = true; owner = None }
+
+pub change-popped : (a b : PagesView) (page : ℕ) (info : PageInfo) → InfoChange a b page info → InfoChange a (popped b) page info
+unfolding popped
+change-popped a b page info c = record { size = c.size; here = c.here; others = c.others }
+
+pub change-pushed : (a b : PagesView) (page next : ℕ) (info : PageInfo) → InfoChange a b page info → InfoChange a (pushed b next) page info
+unfolding pushed
+change-pushed a b page next info c = record { size = c.size; here = c.here; others = c.others }
+
+pub change-begun : (parts : Parts) (page : ℕ) (tag : Tag) (cpu : ℕ) → page < length parts.pages.infos → InfoChange parts.pages (begun parts page tag cpu).pages page (begun_info tag cpu)
+unfolding begun
+change-begun parts page tag cpu below = change-popped parts.pages _ page _ (change-with_info parts.pages page (begun_info tag cpu) below)
+
+pub begun-free : (parts : Parts) (page : ℕ) (tag : Tag) (cpu : ℕ) → (begun parts page tag cpu).pages.free ≡ drop 1 parts.pages.free
+unfolding begun popped with_info
+begun-free parts page tag cpu = refl
+
+pub change-freed : (parts : Parts) (page : ℕ) → page < length parts.pages.infos → InfoChange parts.pages (freed parts page).pages page free_info
+unfolding freed
+change-freed parts page below = change-pushed parts.pages _ page page _ (change-with_info parts.pages page free_info below)
+
+pub freed-free : (parts : Parts) (page : ℕ) → (freed parts page).pages.free ≡ page ∷ parts.pages.free
+unfolding freed pushed with_info
+freed-free parts page = refl
+
+pub freed-cache : (parts : Parts) (page : ℕ) (tag : Tag) → (info_at parts.pages page).tag ≡ Some tag → (freed parts page).cache ≡ without_page parts.cache tag
+unfolding freed
+freed-cache parts page tag e = rw e refl
+
+pub freed-faults : (parts : Parts) (page : ℕ) → (freed parts page).faults ≡ parts.faults
+unfolding freed
+freed-faults parts page = refl
+
+pub change-filled : (parts : Parts) (page : ℕ) → page < length parts.pages.infos → InfoChange parts.pages (filled parts page).pages page (filled_info (info_at parts.pages page))
+unfolding with_owner with_uptodate
+change-filled parts page below =
+    let first = record (info_at parts.pages page) { uptodate = true } in
+    let one = change-with_info parts.pages page first below in
+    let middle = with_uptodate parts.pages page true in
+    let two = change-with_info middle page (record (info_at middle page) { owner = None }) (rw one.size below) in
+    let both = InfoChange-trans parts.pages middle (with_owner middle page None) page first _ one two in
+    record { size = both.size; here = both.here ∙ ap (λ (i : PageInfo). let out : PageInfo = record i { owner = None } in out) one.here; others = both.others }
+
+pub filled-free : (parts : Parts) (page : ℕ) → (filled parts page).pages.free ≡ parts.pages.free
+unfolding with_owner with_uptodate with_info
+filled-free parts page = refl

@@ -1,0 +1,44 @@
+-- Laws of a guest's turns: what stands between any two of them.
+use Rattle.std.specs.Prelude.{◌≡◌, ◌<◌, ℕ, length, true}
+use Rattle.cmm_types.specs.declared.turn.Turn.{Turn}
+use Rattle.cmm_types.specs.declared.turn.Alone.{Alone}
+use Rattle.cmm_io.specs.DiskView.{DiskView}
+use Rattle.cmm_flat.specs.Legal.{flat_of}
+use Rattle.cmm_storage.specs.StorageView.{StorageView}
+use Rattle.cmm_storage.specs.Views.{Seen}
+use Rattle.guest_rules.specs.GuestState.{GuestState}
+use Rattle.guest_rules.specs.Turns.{turn}
+use Rattle.guest_rules.specs.Alone.{alone}
+use Rattle.guest_rules.specs.Fit.{Fit}
+use Rattle.guest_rules.specs.Cause.{TurnCause, AloneCause, NoWrongDiscard}
+use Rattle.guest_rules.proofs.Causes.{turn_causes}
+use Rattle.guest_rules.proofs.Discards.{turn_discards}
+use Rattle.guest_rules.proofs.Steps.{plan_kept}
+use Rattle.guest_rules.proofs.Bound.{alone_causes}
+use Rattle.guest_rules.proofs.Inversion.{turn_case}
+use Rattle.guest_rules.proofs.FitTurn.{fit_turn}
+
+-- every turn keeps fit
+pub Fit-turn : (g : GuestState) (cpu : ℕ) (v : StorageView) (d : DiskView) (h : GuestState) (t : Turn) (w : StorageView) (e : DiskView)
+    → Fit g v d → cpu < length g.processors → Seen {A = GuestState × Turn} (turn g cpu) v d (h, t) w e → Fit h w e
+Fit-turn g cpu v d h t w e f below run = fit_turn g cpu v d h t w e f (turn_case (flat_of g.plan g.journal) g v w d e cpu h t f below run)
+
+-- every turn answers for a cause
+pub Causes-turn : (g : GuestState) (cpu : ℕ) (v : StorageView) (d : DiskView) (h : GuestState) (t : Turn) (w : StorageView) (e : DiskView)
+    → Fit g v d → cpu < length g.processors → Seen {A = GuestState × Turn} (turn g cpu) v d (h, t) w e → TurnCause g v d cpu t h w e
+Causes-turn g cpu v d h t w e f below run = turn_causes g v w d e cpu h t f (turn_case (flat_of g.plan g.journal) g v w d e cpu h t f below run)
+
+-- no turn discards a page that may not be discarded
+pub Discards-turn : (g : GuestState) (cpu : ℕ) (v : StorageView) (d : DiskView) (h : GuestState) (t : Turn) (w : StorageView) (e : DiskView)
+    → Fit g v d → cpu < length g.processors → Seen {A = GuestState × Turn} (turn g cpu) v d (h, t) w e → NoWrongDiscard v w
+Discards-turn g cpu v d h t w e f below run = turn_discards g v w d e cpu h t (turn_case (flat_of g.plan g.journal) g v w d e cpu h t f below run)
+
+-- no turn changes the plan
+pub plan-turn : (g : GuestState) (cpu : ℕ) (v : StorageView) (d : DiskView) (h : GuestState) (t : Turn) (w : StorageView) (e : DiskView)
+    → Fit g v d → cpu < length g.processors → Seen {A = GuestState × Turn} (turn g cpu) v d (h, t) w e → h.plan ≡ g.plan
+plan-turn g cpu v d h t w e f below run = plan_kept g v w d e cpu h t (turn_case (flat_of g.plan g.journal) g v w d e cpu h t f below run)
+
+-- a processor that goes on alone over a storage that never misses stops within 12 turns, and for a cause
+pub Causes-alone : (g : GuestState) (cpu : ℕ) (v : StorageView) (d : DiskView) (h : GuestState) (a : Alone) (w : StorageView) (e : DiskView)
+    → v.quiet ≡ true → Fit g v d → cpu < length g.processors → Seen {A = GuestState × Alone} (alone g cpu) v d (h, a) w e → AloneCause g v d cpu a h w e
+Causes-alone g cpu v d h a w e quiet f below run = alone_causes (λ g v w d e cpu h t. Fit-turn g cpu v d h t w e) g h v w d e cpu a quiet f below run

@@ -1,0 +1,30 @@
+-- A processor's turns up to the first that didn't move.
+use Rattle.std.specs.Prelude.{ℕ, zero, suc, ◌+◌}
+use Rattle.cmm_types.specs.declared.turn.Turn.{Turn}
+use Rattle.cmm_types.specs.declared.turn.Turn.TheVariants.{Moved, Finished, Waits, Again, Idle}
+use Rattle.cmm_types.specs.declared.turn.Alone.{Alone}
+use Rattle.cmm_types.specs.declared.turn.Alone.TheVariants.{Finished as AloneFinished, Waits as AloneWaits, Idle as AloneIdle}
+use Rattle.cmm_storage.specs.Program.{Program, done, bind}
+use Rattle.guest_rules.specs.GuestState.{GuestState}
+use Rattle.guest_rules.specs.Turns.{turn}
+
+-- so many turns are a command's at most, over a storage that never misses
+abbrev pub most_turns : ℕ
+most_turns = 12
+
+-- what follows a turn: the next where it moved. A storage that never misses never answers `Again`
+abbrev pub alone_after : (GuestState → Program (GuestState × Alone)) → ℕ → GuestState → Turn → Program (GuestState × Alone)
+alone_after next turns g Moved = next g
+alone_after next turns g Finished = done (g, AloneFinished (turns + 1))
+alone_after next turns g (Waits page owner) = done (g, AloneWaits turns page owner)
+alone_after next turns g (Again why) = done (g, AloneIdle)
+alone_after next turns g Idle = done (g, AloneIdle)
+
+-- at most `left` further turns, after `turns` that moved. A command never takes more turns than it may, so the first case doesn't come
+abbrev pub alone_within : ℕ → ℕ → GuestState → ℕ → Program (GuestState × Alone)
+alone_within zero turns g cpu = done (g, AloneIdle)
+alone_within (suc left) turns g cpu = bind (turn g cpu) (λ went. alone_after (λ h. alone_within left (turns + 1) h cpu) turns went.0 went.1)
+
+-- a processor's turns up to the first that didn't move
+abbrev pub alone : GuestState → ℕ → Program (GuestState × Alone)
+alone g cpu = alone_within most_turns 0 g cpu

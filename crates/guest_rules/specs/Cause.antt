@@ -1,0 +1,69 @@
+-- Why a turn answered as it did.
+use Rattle.std.specs.Prelude.{◌≡◌, ◌≢◌, ◌⊎◌, ◌<◌, ◌≤◌, ℕ, ◌+◌, ◌++◌, [], ◌∷◌, true, Some, None}
+use Rattle.cmm_types.specs.declared.turn.Turn.{Turn}
+use Rattle.cmm_types.specs.declared.turn.Turn.TheVariants.{Moved, Finished, Waits, Again, Idle}
+use Rattle.cmm_types.specs.declared.turn.Alone.{Alone}
+use Rattle.cmm_types.specs.declared.turn.Alone.TheVariants.{Finished as AloneFinished, Waits as AloneWaits, Idle as AloneIdle}
+use Rattle.cmm_types.specs.declared.command.Op.{Op}
+use Rattle.cmm_types.specs.declared.command.Reply.{Reply}
+use Rattle.cmm_types.specs.declared.command.Reply.TheVariants.{Done, Bytes, Refused, Fail}
+use Rattle.cmm_types.specs.declared.command.Cause.TheVariants.{Disk, Paging, NoPage}
+use Rattle.cmm_io.specs.Faults.{HasRisen}
+use Rattle.cmm_io.specs.DiskView.{DiskView}
+use Rattle.cmm_flat.specs.Legal.{command_of, process_of, flat_of}
+use Rattle.cmm_flat.specs.Flat.{refusal_of}
+use Rattle.essa_state.specs.PageValue.{is_lost, may_lose}
+use Rattle.cmm_storage.specs.StorageView.{StorageView}
+use Rattle.guest_pages.specs.PagesView.{info_at}
+use Rattle.guest_rules.specs.declared.processor.Phase.TheVariants.{Start}
+use Rattle.guest_rules.specs.GuestState.{GuestState, processor_at}
+use Rattle.guest_rules.specs.Alone.{most_turns}
+
+-- what a reply rests on: a failure on a rise of its count, a refusal on the flat machine in the state that the journal leads to
+abbrev pub ReplyCause : GuestState → ℕ → Op → StorageView → DiskView → Reply → StorageView → DiskView → Type 0
+ReplyCause g cpu op v d Done w e = Unit {0}
+ReplyCause g cpu op v d (Bytes bytes) w e = refusal_of (flat_of g.plan g.journal) (process_of g.plan cpu) op ≡ None
+ReplyCause g cpu op v d (Refused refusal) w e = refusal_of (flat_of g.plan g.journal) (process_of g.plan cpu) op ≡ Some refusal
+ReplyCause g cpu op v d (Fail Disk) w e = HasRisen d.faults e.faults
+ReplyCause g cpu op v d (Fail Paging) w e = HasRisen v.faults w.faults
+ReplyCause g cpu op v d (Fail (NoPage pinned unslotted)) w e = ⊥
+
+-- a command was finished: its entry stands in the journal, and the processor goes on to the next
+pub record HasFinished (g : GuestState) (v : StorageView) (d : DiskView) (cpu : ℕ) (h : GuestState) (w : StorageView) (e : DiskView) : Type 0 where
+  pub op : Op
+  pub reply : Reply
+  pub command : command_of g.plan cpu (processor_at g cpu).place ≡ Some op
+  pub entry : h.journal ≡ g.journal ++ record { cpu = cpu; k = (processor_at g cpu).place; op = op; reply = reply } ∷ []
+  pub next : processor_at h cpu ≡ record { place = (processor_at g cpu).place + 1; phase = Start }
+  pub cause : ReplyCause g cpu op v d reply w e
+
+-- a command went on: neither the journal nor the place changed
+pub record HasMoved (g : GuestState) (cpu : ℕ) (h : GuestState) : Type 0 where
+  pub journal : h.journal ≡ g.journal
+  pub place : (processor_at h cpu).place ≡ (processor_at g cpu).place
+  pub command : (op : Op) × (command_of g.plan cpu (processor_at g cpu).place ≡ Some op)
+
+-- the page is locked by that other processor
+pub record WaitsFor (g : GuestState) (cpu page owner : ℕ) : Type 0 where
+  pub locked : (info_at g.parts.pages page).owner ≡ Some owner
+  pub other : owner ≢ cpu
+
+-- why a turn answered so, and what it left as it was
+abbrev pub TurnCause : GuestState → StorageView → DiskView → ℕ → Turn → GuestState → StorageView → DiskView → Type 0
+TurnCause g v d cpu Moved h w e = HasMoved g cpu h
+TurnCause g v d cpu Finished h w e = HasFinished g v d cpu h w e
+TurnCause g v d cpu (Waits page owner) h w e = (h ≡ g) × (w ≡ v) × (e ≡ d) × WaitsFor g cpu page owner
+TurnCause g v d cpu (Again why) h w e = (h ≡ g) × (e ≡ d) × HasRisen v.misses w.misses
+TurnCause g v d cpu Idle h w e = (h ≡ g) × (w ≡ v) × (e ≡ d) × (command_of g.plan cpu (processor_at g cpu).place ≡ None)
+
+-- a page that is discarded after a turn was discarded before, or was volatile, or potentially volatile and unchanged
+abbrev pub NoWrongDiscard : StorageView → StorageView → Type 0
+NoWrongDiscard v w =
+    (page : ℕ) → page < v.pages → is_lost (w.values page).contents ≡ true → (is_lost (v.values page).contents ≡ true) ⊎ (may_lose (v.values page).usage (v.values page).changed ≡ true)
+
+-- why a processor that went on alone stopped: its command is finished, after 1 to 12 turns; or its page is locked by another
+-- processor; or no command is left
+abbrev pub AloneCause : GuestState → StorageView → DiskView → ℕ → Alone → GuestState → StorageView → DiskView → Type 0
+AloneCause g v d cpu (AloneFinished turns) h w e = HasFinished g v d cpu h w e × (1 ≤ turns) × (turns ≤ most_turns)
+AloneCause g v d cpu (AloneWaits turns page owner) h w e = HasMoved g cpu h × WaitsFor h cpu page owner × (turns < most_turns)
+AloneCause g v d cpu AloneIdle h w e = (h ≡ g) × (w ≡ v) × (e ≡ d) × (command_of g.plan cpu (processor_at g cpu).place ≡ None)

@@ -1,0 +1,178 @@
+-- What stands between any two turns of a guest, its pages' values and its disk.
+use Rattle.std.specs.Prelude.{◌≡◌, ◌<◌, ◌≤◌, ℕ, zero, suc, ◌+◌, ◌*◌, List, [], length, map, sum, sum_by, Bool, true, false, Option, Some, None, Contains, slice_get, slice_index_or}
+use Rattle.std.specs.FinMap as finite
+use Rattle.cmm_types.specs.declared.page.TheConstants.{PAGE}
+use Rattle.cmm_types.specs.declared.page.Usage.TheVariants.{V}
+use Rattle.cmm_types.specs.declared.page.Tag.{Tag}
+use Rattle.cmm_types.specs.declared.page.Tag.TheVariants.{File}
+use Rattle.cmm_types.specs.declared.plan.TheConstants.{MAX_MAPPING_SLOTS}
+use Rattle.cmm_types.specs.declared.command.TheConstants.{MAX_MAPPING_PAGES}
+use Rattle.cmm_types.specs.declared.command.Op.TheVariants.{Read}
+use Rattle.cmm_types.specs.declared.plan.CpuPlan.{CpuPlan}
+use Rattle.cmm_types.specs.declared.plan.GuestPlan.{GuestPlan}
+use Rattle.cmm_types.specs.InRange.{GuestInRange, blocks_of}
+use Rattle.cmm_flat.specs.Bytes.{bytes_at}
+use Rattle.cmm_flat.specs.State.{FlatState, file_at}
+use Rattle.cmm_flat.specs.Legal.{Legal, flat_of, walk_of, start_of, progress_of, command_of}
+use Rattle.cmm_io.specs.DiskView.{DiskView, AreBlocks}
+use Rattle.essa_state.specs.PageValue.{PageValue, Contents, Bytes, Blank, Lost, IsValue, is_lost, is_blank}
+use Rattle.cmm_storage.specs.StorageView.{StorageView, zeros}
+use Rattle.guest_pages.specs.PagesView.{info_at, free_info, AreDistinct}
+use Rattle.guest_cache.specs.CacheView.{CacheView, IsTag, page_of, backing_of}
+use Rattle.guest_rules.specs.declared.parts.Parts.{Parts}
+use Rattle.guest_rules.specs.declared.processor.Phase.TheVariants.{Fill}
+use Rattle.guest_rules.specs.Hint.{hint}
+use Rattle.guest_rules.specs.GuestState.{GuestState, processor_at}
+use Rattle.guest_rules.specs.Built.{GuestIsBuilt}
+
+-- the tables, the storage and the disk are of the plan's sizes
+pub record SizesFit (g : GuestState) (v : StorageView) (d : DiskView) : Type 0 where
+  pub range : GuestInRange g.plan
+  pub built : GuestIsBuilt g.plan
+  pub infos : length g.parts.pages.infos ≡ g.plan.pages
+  pub pages : v.pages ≡ g.plan.pages
+  pub processors : length g.processors ≡ length g.plan.cpus
+  pub files : g.parts.cache.files ≡ map (λ file. file.pages) g.plan.files
+  pub slots : g.parts.cache.slots ≡ MAX_MAPPING_SLOTS
+  pub index : length g.parts.cache.index ≡ sum g.parts.cache.files + g.parts.cache.slots * MAX_MAPPING_PAGES
+  pub blocks : d.count ≡ blocks_of g.plan
+
+-- pages: the free stack has the pages without a tag, each once; a page without a tag is nothing else either; the index has
+-- exactly the tags of the tagged pages, so no two pages have one tag
+pub record PagesFit (parts : Parts) : Type 0 where
+  pub once : AreDistinct parts.pages.free
+  pub free : (page : ℕ) → Contains parts.pages.free page → (page < length parts.pages.infos) × ((info_at parts.pages page).tag ≡ None)
+  pub stacked : (page : ℕ) → page < length parts.pages.infos → (info_at parts.pages page).tag ≡ None → Contains parts.pages.free page
+  pub bare : (page : ℕ) → (info_at parts.pages page).tag ≡ None → info_at parts.pages page ≡ free_info
+  pub indexed : (page : ℕ) (tag : Tag) → (info_at parts.pages page).tag ≡ Some tag → IsTag parts.cache tag × (page_of parts.cache tag ≡ Some page)
+  pub found : (page : ℕ) (tag : Tag) → IsTag parts.cache tag → page_of parts.cache tag ≡ Some page → (page < length parts.pages.infos) × ((info_at parts.pages page).tag ≡ Some tag)
+
+-- mapping slots, entries and pins: nothing is mapped yet, so no page is pinned or shown, none is written, and every tag is of a file
+pub record MappingsFit (flat : FlatState) (parts : Parts) (v : StorageView) : Type 0 where
+  pub none_live : flat.mappings ≡ finite.empty
+  pub unpinned : (page : ℕ) → (info_at parts.pages page).pins ≡ 0
+  pub unshown : (page : ℕ) → (info_at parts.pages page).writers ≡ 0
+  pub clean : (page : ℕ) → (info_at parts.pages page).dirty ≡ false
+  pub unchanged : (page : ℕ) → page < v.pages → (v.values page).changed ≡ false
+  pub of_files : (page : ℕ) (tag : Tag) → (info_at parts.pages page).tag ≡ Some tag → (file : ℕ) × (index : ℕ) × (tag ≡ File file index)
+
+-- a processor that fills a page has a command that reads it
+pub record IsFilling (g : GuestState) (cpu page : ℕ) : Type 0 where
+  pub file : ℕ
+  pub off : ℕ
+  pub len : ℕ
+  pub command : command_of g.plan cpu (processor_at g cpu).place ≡ Some (Read file off len)
+  pub below : page < length g.parts.pages.infos
+  pub owner : (info_at g.parts.pages page).owner ≡ Some cpu
+  pub stale : (info_at g.parts.pages page).uptodate ≡ false
+  pub tag : Tag
+  pub tagged : (info_at g.parts.pages page).tag ≡ Some tag
+
+-- locks: a page is locked by a processor exactly where that processor fills it; a tagged page isn't up to date exactly there
+pub record LocksFit (g : GuestState) : Type 0 where
+  pub filling : (cpu page : ℕ) → (processor_at g cpu).phase ≡ Fill page → (cpu < length g.processors) × IsFilling g cpu page
+  pub locked : (cpu page : ℕ) → (info_at g.parts.pages page).owner ≡ Some cpu → (processor_at g cpu).phase ≡ Fill page
+  pub stale : (page : ℕ) (tag : Tag) → (info_at g.parts.pages page).tag ≡ Some tag → (info_at g.parts.pages page).owner ≡ None → (info_at g.parts.pages page).uptodate ≡ true
+
+-- hints: every page's usage is its hint, and a volatile page isn't changed
+pub record HintsFit (parts : Parts) (v : StorageView) : Type 0 where
+  pub none_held : v.held ≡ None
+  pub values : (page : ℕ) → page < v.pages → IsValue (v.values page)
+  pub hints : (page : ℕ) → page < v.pages → (v.values page).usage ≡ hint (info_at parts.pages page)
+  pub volatile : (page : ℕ) → page < v.pages → (v.values page).usage ≡ V → (v.values page).changed ≡ false
+
+-- a block's bytes, where the disk tells them
+abbrev pub block_bytes : Option (List (List ℕ)) → ℕ → List ℕ
+block_bytes None block = []
+block_bytes (Some blocks) block = slice_index_or blocks block []
+
+abbrev pub backed : Option (List (List ℕ)) → Option ℕ → List ℕ
+backed blocks None = zeros
+backed blocks (Some block) = block_bytes blocks block
+
+-- what backs a tag: the bytes of its block, or zeros
+abbrev pub backing : CacheView → DiskView → Tag → List ℕ
+backing cache d tag = backed d.blocks (backing_of cache tag)
+
+-- contents: a tagged page that is up to date isn't blank, and where it is neither dirty, changed nor lost it has what backs its tag
+pub record ContentsFit (parts : Parts) (v : StorageView) (d : DiskView) : Type 0 where
+  pub tells : v.tells ≡ true
+  pub told : (blocks : List (List ℕ)) × (d.blocks ≡ Some blocks)
+  pub blocks : AreBlocks d.count d.blocks
+  pub not_blank : (page : ℕ) (tag : Tag) → page < v.pages → (info_at parts.pages page).tag ≡ Some tag → (info_at parts.pages page).uptodate ≡ true
+      → is_blank (v.values page).contents ≡ false
+  pub same : (page : ℕ) (tag : Tag) → page < v.pages → (info_at parts.pages page).tag ≡ Some tag → (info_at parts.pages page).uptodate ≡ true
+      → (info_at parts.pages page).dirty ≡ false → (v.values page).changed ≡ false → is_lost (v.values page).contents ≡ false
+      → (v.values page).contents ≡ Bytes (backing parts.cache d tag)
+
+-- the bytes of a page with these contents, where it is up to date, or what backs it
+abbrev pub current_bytes : (uptodate : Bool) → Contents → List ℕ → List ℕ
+current_bytes false contents behind = behind
+current_bytes true (Bytes bytes) behind = bytes
+current_bytes true Blank behind = zeros
+current_bytes true Lost behind = behind
+
+abbrev pub current_at : Parts → StorageView → Option ℕ → List ℕ → List ℕ
+current_at parts v None behind = behind
+current_at parts v (Some page) behind = current_bytes (info_at parts.pages page).uptodate (v.values page).contents behind
+
+-- the current bytes of a tag: its page's, where that is up to date and isn't lost, or else what backs the tag
+abbrev pub current : Parts → StorageView → DiskView → Tag → List ℕ
+current parts v d tag = current_at parts v (page_of parts.cache tag) (backing parts.cache d tag)
+
+-- flat state: each file page is the current bytes of its tag
+pub record FlatFit (flat : FlatState) (g : GuestState) (v : StorageView) (d : DiskView) : Type 0 where
+  pub lengths : map length flat.files ≡ map (λ file. PAGE * file.pages) g.plan.files
+  pub pages : (file index : ℕ) → IsTag g.parts.cache (File file index)
+      → bytes_at (file_at flat.files file) (PAGE * index) PAGE ≡ current g.parts v d (File file index)
+
+-- how many commands a processor has
+abbrev pub commands_of : GuestPlan → ℕ → ℕ
+commands_of plan cpu = of (slice_get plan.cpus cpu)
+  where
+    of : Option CpuPlan → ℕ
+    of None = 0
+    of (Some its) = length its.commands
+
+-- how many commands all processors have
+abbrev pub all_commands : GuestPlan → ℕ
+all_commands plan = sum_by (λ cpu. length cpu.commands) plan.cpus
+
+-- journal: it is legal, and each processor has the entries of the commands before its place
+pub record JournalFit (g : GuestState) : Type 0 where
+  pub legal : Legal g.plan g.journal
+  pub places : (cpu : ℕ) → cpu < length g.processors → (progress_of (walk_of g.plan (start_of g.plan) g.journal) cpu).next ≡ (processor_at g cpu).place
+  pub within : (cpu : ℕ) → cpu < length g.processors → (processor_at g cpu).place ≤ commands_of g.plan cpu
+  pub counted : length g.journal ≡ sum_by (λ processor. processor.place) g.processors
+
+-- the sum of a number over the pages below a count
+abbrev pub over_pages : (ℕ → ℕ) → ℕ → ℕ
+over_pages number zero = 0
+over_pages number (suc count) = over_pages number count + number count
+
+abbrev pub one_if_lost : PageValue → ℕ
+one_if_lost value = of value.contents
+  where
+    of : Contents → ℕ
+    of (Bytes bytes) = 0
+    of Blank = 0
+    of Lost = 1
+
+-- faults: the handled pages and the lost ones are together at most the discards counted
+abbrev pub FaultsFit : Parts → StorageView → Type 0
+FaultsFit parts v = parts.faults + over_pages (λ page. one_if_lost (v.values page)) v.pages ≤ over_pages (λ page. (v.values page).count) v.pages
+
+pub record FitAt (state : FlatState) (g : GuestState) (v : StorageView) (d : DiskView) : Type 0 where
+  pub sizes : SizesFit g v d
+  pub pages : PagesFit g.parts
+  pub mappings : MappingsFit state g.parts v
+  pub locks : LocksFit g
+  pub hints : HintsFit g.parts v
+  pub contents : ContentsFit g.parts v d
+  pub flat : FlatFit state g v d
+  pub journal : JournalFit g
+  pub faults : FaultsFit g.parts v
+
+-- the same for the flat state that the journal leads to
+abbrev pub Fit : GuestState → StorageView → DiskView → Type 0
+Fit g v d = FitAt (flat_of g.plan g.journal) g v d

@@ -1,0 +1,51 @@
+-- What a guest has: its plan, its tables, its journal, and where its processors are.
+use Rattle.std.specs.Prelude.{ℕ, ◌+◌, ◌++◌, List, [], ◌∷◌, map, slice_set, slice_index_or}
+use Rattle.cmm_types.specs.declared.plan.TheConstants.{MAX_MAPPING_SLOTS}
+use Rattle.guest_pages.specs.PagesView.{opening_pages}
+use Rattle.guest_cache.specs.CacheView.{opening_cache}
+use Rattle.cmm_types.specs.declared.plan.GuestPlan.{GuestPlan}
+use Rattle.cmm_types.specs.declared.command.Op.{Op}
+use Rattle.cmm_types.specs.declared.command.Reply.{Reply}
+use Rattle.cmm_types.specs.declared.command.Entry.{Entry}
+use Rattle.guest_rules.specs.declared.parts.Parts.{Parts}
+use Rattle.guest_rules.specs.declared.processor.Phase.{Phase}
+use Rattle.guest_rules.specs.declared.processor.Phase.TheVariants.{Start}
+use Rattle.guest_rules.specs.declared.processor.Processor.{Processor}
+
+pub record GuestState : Type 0 where
+  pub plan : GuestPlan
+  pub parts : Parts
+  pub journal : List Entry
+  pub processors : List Processor
+
+abbrev pub at_start : Processor
+at_start = record { place = 0; phase = Start }
+
+abbrev pub processor_at : GuestState → ℕ → Processor
+processor_at g cpu = slice_index_or g.processors cpu at_start
+
+abbrev pub with_parts : GuestState → Parts → GuestState
+with_parts g parts = record g { parts = parts }
+
+abbrev pub with_processor : GuestState → ℕ → Processor → GuestState
+with_processor g cpu processor = record g { processors = slice_set g.processors cpu processor }
+
+unfoldable pub with_phase : GuestState → ℕ → Phase → GuestState
+with_phase g cpu phase = with_processor g cpu (record { place = (processor_at g cpu).place; phase = phase })
+
+-- the reply stands in the journal, and the processor goes on to its next command
+unfoldable pub entered : GuestState → ℕ → Op → Reply → GuestState
+entered g cpu op reply =
+    record g {
+      journal = g.journal ++ record { cpu = cpu; k = (processor_at g cpu).place; op = op; reply = reply } ∷ [];
+      processors = slice_set g.processors cpu (record { place = (processor_at g cpu).place + 1; phase = Start });
+    }
+
+-- a guest before its first turn: every page is free, nothing is cached, and no command has its reply
+abbrev pub opening_guest : GuestPlan → GuestState
+opening_guest plan = record {
+  plan = plan;
+  parts = record { pages = opening_pages plan.pages; cache = opening_cache (map (λ file. file.pages) plan.files) MAX_MAPPING_SLOTS; faults = 0 };
+  journal = [];
+  processors = map (λ cpu. at_start) plan.cpus;
+}

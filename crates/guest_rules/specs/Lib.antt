@@ -1,0 +1,9 @@
+pub mod Hint
+pub mod Rows
+pub mod GuestState
+pub mod Turns
+pub mod Alone
+pub mod Built
+pub mod Fit
+pub mod Cause
+pub mod Fresh

@@ -1,0 +1,139 @@
+-- What a turn does to one page, as programs of calls. Each begins and ends with no page held, but the parts that say otherwise.
+use Rattle.std.specs.Prelude.{ℕ, List, Bool, true, false, Option, Some, None, Result, Ok, Err}
+use Rattle.cmm_types.specs.declared.page.Tag.{Tag}
+use Rattle.cmm_types.specs.declared.page.Usage.{Usage}
+use Rattle.cmm_types.specs.declared.page.Usage.TheVariants.{S, U, P, V}
+use Rattle.cmm_types.specs.declared.command.Cause.{Cause}
+use Rattle.cmm_types.specs.declared.command.Cause.TheVariants.{Disk, Paging as PagingCause}
+use Rattle.cmm_types.specs.declared.turn.Why.TheVariants.{Busy as WasBusy, NoFrame as HadNoFrame}
+use Rattle.cmm_io.specs.Faults.{raised}
+use Rattle.cmm_io.specs.declared.failed.Failed.{Failed}
+use Rattle.essa_state.specs.declared.orders.Order.TheVariants.{SetUnused, SetVolatile, SetPotential, SetStableResident, SetStableIf}
+use Rattle.cmm_storage.specs.declared.storage.Busy.{Busy}
+use Rattle.cmm_storage.specs.declared.storage.Trap.{Trap}
+use Rattle.cmm_storage.specs.declared.storage.Trap.TheVariants.{Discarded, Paging, NoFrame}
+use Rattle.cmm_storage.specs.StorageView.{zeros}
+use Rattle.cmm_storage.specs.Program.{Program, done, take_page, touch_page, order_page, take_change, fetch_page, store_page, put_page, read_block, bind}
+use Rattle.guest_pages.specs.PagesView.{free_info, info_at, with_info, with_uptodate, with_dirty, with_owner, pushed}
+use Rattle.guest_cache.specs.CacheView.{CacheView, without_page, backing_of}
+use Rattle.guest_rules.specs.declared.parts.Parts.{Parts}
+use Rattle.guest_rules.specs.declared.outcome.Gone.{Gone}
+use Rattle.guest_rules.specs.declared.outcome.Filled.{Filled}
+use Rattle.guest_rules.specs.declared.outcome.Filled.TheVariants.{Done, Again, Fail}
+use Rattle.guest_rules.specs.declared.outcome.Missed.{Missed}
+use Rattle.guest_rules.specs.declared.outcome.Missed.TheVariants.{Gone as WasGone, Again as MissedAgain, Fail as MissedFail}
+use Rattle.guest_rules.specs.Hint.{hint}
+
+-- the index without the page's tag, if it has one
+abbrev pub without_tag : CacheView → Option Tag → CacheView
+without_tag cache None = cache
+without_tag cache (Some tag) = without_page cache tag
+
+-- the page has no tag any more, and is the next free one
+unfoldable pub freed : Parts → ℕ → Parts
+freed parts page =
+    record parts { pages = pushed (with_info parts.pages page free_info) page; cache = without_tag parts.cache (info_at parts.pages page).tag }
+
+-- the same after a discard, which is counted
+unfoldable pub handled : Parts → ℕ → Parts
+handled parts page = record (freed parts page) { faults = raised parts.faults }
+
+-- the handler of a held discarded page
+unfoldable pub handler : Parts → ℕ → Program Parts
+handler parts page = order_page page SetUnused (λ was_done. done (handled parts page))
+
+abbrev pub dirtied : Parts → ℕ → Parts
+dirtied parts page = record parts { pages = with_dirty parts.pages page true }
+
+-- a page whose change bit was set is dirty
+abbrev pub with_change : Parts → ℕ → (changed : Bool) → Parts
+with_change parts page true = dirtied parts page
+with_change parts page false = parts
+
+-- the host is told the hint of a held stable page
+abbrev pub tell : Usage → Parts → ℕ → Program Parts
+tell S parts page = done parts
+tell U parts page = done parts
+tell P parts page = order_page page SetPotential (λ was_done. done parts)
+tell V parts page = order_page page SetVolatile (λ was_done. done parts)
+
+abbrev pub rehint_changed : Parts → ℕ → Bool → Program Parts
+rehint_changed parts page changed = tell (hint (info_at (with_change parts page changed).pages page)) (with_change parts page changed) page
+
+-- the change bit of a held stable page with a tag moves into what is known of the page, and the host is told its hint
+unfoldable pub rehint : Parts → ℕ → Program Parts
+rehint parts page = take_change page (rehint_changed parts page)
+
+abbrev pub make_stable_done : Parts → ℕ → Bool → Program (Parts × Result Unit Gone)
+make_stable_done parts page true = done (parts, Ok tt)
+make_stable_done parts page false = bind (handler parts page) (λ after. done (after, Err (record {})))
+
+-- a held page is made stable, or freed where it was discarded
+unfoldable pub make_stable : Parts → ℕ → Program (Parts × Result Unit Gone)
+make_stable parts page = order_page page SetStableIf (make_stable_done parts page)
+
+-- a page that was made stable isn't discarded
+abbrev pub missed_by : Trap → Missed
+missed_by Discarded = MissedFail PagingCause
+missed_by Paging = MissedFail PagingCause
+missed_by (NoFrame looks) = MissedAgain (HadNoFrame looks)
+
+abbrev pub read_touched : ℕ → ℕ → ℕ → Parts → Result Unit Trap → Program (Parts × Result (List ℕ) Missed)
+read_touched page off len parts (Ok u) = fetch_page page off len (λ bytes. bind (rehint parts page) (λ after. put_page page (done (after, Ok bytes))))
+read_touched page off len parts (Err trap) = bind (rehint parts page) (λ after. put_page page (done (after, Err (missed_by trap))))
+
+abbrev pub read_stable : ℕ → ℕ → ℕ → Parts → Result Unit Gone → Program (Parts × Result (List ℕ) Missed)
+read_stable page off len parts (Ok u) = touch_page page (read_touched page off len parts)
+read_stable page off len parts (Err gone) = put_page page (done (parts, Err WasGone))
+
+abbrev pub read_taken : Parts → ℕ → ℕ → ℕ → Result Unit Busy → Program (Parts × Result (List ℕ) Missed)
+read_taken parts page off len (Ok u) = bind (make_stable parts page) (λ went. read_stable page off len went.0 went.1)
+read_taken parts page off len (Err busy) = done (parts, Err (MissedAgain (WasBusy page busy.word)))
+
+-- bytes of a page with a tag that isn't locked
+unfoldable pub read_page : Parts → ℕ → ℕ → ℕ → Program (Parts × Result (List ℕ) Missed)
+read_page parts page off len = take_page page (read_taken parts page off len)
+
+-- the page has its bytes, and isn't locked
+abbrev pub filled : Parts → ℕ → Parts
+filled parts page = record parts { pages = with_owner (with_uptodate parts.pages page true) page None }
+
+-- the block that the page's tag is read from
+abbrev pub backing_at : Parts → ℕ → Option ℕ
+backing_at parts page = of (info_at parts.pages page).tag
+  where
+    of : Option Tag → Option ℕ
+    of None = None
+    of (Some tag) = backing_of parts.cache tag
+
+-- the page that couldn't be filled is free again
+abbrev pub give_up : Parts → ℕ → Cause → Program (Parts × Filled)
+give_up parts page cause = order_page page SetUnused (λ was_done. put_page page (done (freed parts page, Fail cause)))
+
+-- all bytes are stored, which sets the change bit: it is dropped
+abbrev pub fill_with : Parts → ℕ → List ℕ → Program (Parts × Filled)
+fill_with parts page bytes =
+    store_page page 0 bytes (take_change page (λ changed. bind (rehint (filled parts page) page) (λ after. put_page page (done (after, Done)))))
+
+abbrev pub fill_read : Parts → ℕ → Result (List ℕ) Failed → Program (Parts × Filled)
+fill_read parts page (Ok bytes) = fill_with parts page bytes
+fill_read parts page (Err failed) = give_up parts page Disk
+
+-- what no block backs is zeros
+abbrev pub fill_from : Parts → ℕ → Option ℕ → Program (Parts × Filled)
+fill_from parts page (Some block) = read_block block (fill_read parts page)
+fill_from parts page None = fill_with parts page zeros
+
+abbrev pub fill_touched : Parts → ℕ → Result Unit Trap → Program (Parts × Filled)
+fill_touched parts page (Ok u) = fill_from parts page (backing_at parts page)
+fill_touched parts page (Err Discarded) = give_up parts page PagingCause
+fill_touched parts page (Err Paging) = give_up parts page PagingCause
+fill_touched parts page (Err (NoFrame looks)) = put_page page (done (parts, Again (HadNoFrame looks)))
+
+abbrev pub fill_taken : Parts → ℕ → Result Unit Busy → Program (Parts × Filled)
+fill_taken parts page (Ok u) = order_page page SetStableResident (λ was_done. touch_page page (fill_touched parts page))
+fill_taken parts page (Err busy) = done (parts, Again (WasBusy page busy.word))
+
+-- a locked page gets the bytes of its tag
+unfoldable pub fill : Parts → ℕ → Program (Parts × Filled)
+fill parts page = take_page page (fill_taken parts page)

@@ -1,0 +1,11 @@
+//! The rules of a guest: its tables, what each turn of a processor does as a program of calls, and what stands between
+//! any two turns.
+#![tactic(auto)]
+
+mod outcome;
+mod parts;
+mod processor;
+
+pub use outcome::{Filled, Gone, Missed};
+pub use parts::Parts;
+pub use processor::{Phase, Processor};

@@ -1,0 +1,14 @@
+pub mod Kept
+pub mod Keeping
+pub mod Touching
+pub mod Calling
+pub mod Opening
+pub mod Marked
+pub mod Choosing
+pub mod Places
+pub mod Sound
+pub mod Follows
+pub mod Starts
+pub mod Moving
+pub mod Others
+pub mod Running

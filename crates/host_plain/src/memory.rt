@@ -1,0 +1,511 @@
+// The pages of all guests, the free frames and the hand, and what the host does to them.
+ghost use Rattle.std.specs.Prelude.{◌≡◌, ◌<◌, ◌+◌, ◌≤◌, ℕ, length, take, drop, true, false, Some, Ok, is_ok, IfOk, All, map, vec_len, vec_capacity};
+ghost use Rattle.cmm_types.specs.declared.page.TheConstants.{PAGE};
+ghost use Rattle.cmm_types.specs.declared.plan.TheConstants.{MAX_FRAMES, MAX_TOTAL_PAGES};
+ghost use Rattle.cmm_types.specs.declared.page.Move.TheVariants.{Preserve, Bring};
+ghost use Rattle.essa_state.specs.StateWord.{is_permitted, is_resident, is_preserved, is_zero};
+ghost use Rattle.essa_state.specs.Moves.{move_answer, discard_answer, preserve_answer};
+ghost use Rattle.essa_state.specs.Orders.{after_order};
+ghost use Rattle.essa_state.specs.PageBody.{frame_bytes};
+ghost use Rattle.host_plain.specs.MemoryState.{IsMemory, IsPage, word_at, body_at, with_word, with_use, stored_at, old_of, resident_of, frameless, IsWholeBody, frames_in, framed_of, opening_memory};
+ghost use Rattle.host_plain.specs.Eviction.{passed, passed_by, discarded_at, moved_page, reclaimed_page, evicted_at, freed};
+ghost use Rattle.host_plain.specs.Touches.{touched_page, zeroed_at, filled, filled_after};
+ghost use Rattle.host_plain.specs.Keeping.{HostKeeps};
+ghost use Rattle.host_plain.specs.HostMoves.{allowed_move, applied, reclaimed};
+
+use crate::body::PageBody;
+use crate::moves::{ApplyError, Reclaim};
+use crate::words::Words;
+use cmm_io::Failed;
+use cmm_pager::{MemBlock, MemPager};
+use cmm_storage::Trap;
+use cmm_types::{Content, MAX_FRAMES, MAX_TOTAL_PAGES, Move};
+use essa_state::{Fields, Old, Order, Word, apply_order, host_move, reclaiming_move};
+use page_arena::Frame;
+use std::alloc::{AllocError, Global};
+use std::marker::Model;
+
+#[derive(Drop)]
+pub struct Memory {
+    words: Words,
+    bodies: Vec<PageBody>,
+    // Has room for all frames.
+    free: Vec<Frame>,
+    frames: usize,
+    hand: usize,
+}
+
+impl Model for Memory {
+    ghost use Rattle.std.specs.Prelude.{◌≤◌, length, vec_len, vec_capacity};
+    ghost use Rattle.host_plain.specs.MemoryState.{MemoryState, IsMemory};
+
+    ghost Value = { MemoryState };
+
+    ghost view = { λ m. record { words = m.words; bodies = m.bodies.items; frames = m.frames; free = vec_len m.free; hand = m.hand } };
+
+    ghost invariant = { λ m. IsMemory (record { words = m.words; bodies = m.bodies.items; frames = m.frames; free = vec_len m.free; hand = m.hand })
+        × (m.frames ≤ vec_capacity m.free) };
+}
+
+// How many words the hand passes on its way to the victim.
+fn passed(words: &Words, hand: usize, place: usize) -> usize
+    requires hand { hand < length words.now }
+    requires place { place < length words.now }
+    ensures passed { result ≡ passed words.now hand place }
+    ensures most { result ≤ length words.now }
+{
+    if words.get(place).referenced() {
+        words.len()
+    } else if place < hand {
+        place + (words.len() - hand)
+    } else {
+        place - hand
+    }
+}
+
+// The word after a move that its table allows.
+fn moved(word: Word, action: Move) -> Word
+    requires { is_ok (move_answer word action) ≡ true }
+    ensures { move_answer word action ≡ Ok result }
+{
+    match host_move(word, action) {
+        Ok(moved) => moved,
+        Err(_) => unreachable!(),
+    }
+}
+
+// Puts a frame among the free ones, where there is room.
+fn give_back(free: &mut Vec<Frame>, frame: Frame)
+    requires room { vec_len free.old < vec_capacity free.old }
+    ensures len { vec_len free.new ≡ vec_len free.old + 1 }
+    ensures room { vec_capacity free.old ≤ vec_capacity free.new }
+{
+    match free.push(frame) {
+        Ok(()) => (),
+        Err(_) => unreachable!(),
+    }
+}
+
+// A body without a frame for each block.
+fn bodies_of(alloc: Global, blocks: Vec<MemBlock>) -> Result<Vec<PageBody>, AllocError>
+    ensures bodies { IfOk result (λ bodies. bodies.items ≡ map frameless blocks.items) }
+    ensures whole { IfOk result (λ bodies. All IsWholeBody bodies.items) }
+{
+    let mut bodies = Vec::with_capacity(alloc, blocks.len())?;
+    for block in blocks {
+        bodies.push(PageBody::new(block))?;
+    }
+    Ok(bodies)
+}
+
+// Moves the body's frame, if it has one, into the list, which has room for it.
+fn take_frame(mut body: PageBody, into: &mut Vec<Frame>)
+    requires room { vec_len into.old + frames_in body ≤ vec_capacity into.old }
+    ensures len { vec_len into.new ≡ vec_len into.old + frames_in body }
+    ensures room { vec_capacity into.old ≤ vec_capacity into.new }
+{
+    if let Some(frame) = body.discard() {
+        give_back(into, frame);
+    }
+}
+
+// Moves the frames of all bodies into the list, which has room for them.
+fn take_frames(mut bodies: Vec<PageBody>, into: &mut Vec<Frame>)
+    requires room { vec_len into.old + framed_of bodies.items ≤ vec_capacity into.old }
+    ensures { vec_len into.new ≡ vec_len into.old + framed_of bodies.items }
+{
+    while let Some(body) = bodies.pop() {
+        take_frame(body, into);
+    }
+}
+
+impl Memory {
+    /// Unused pages without contents, one with each block, and these frames, which are all free.
+    pub fn open(
+        alloc: Global,
+        blocks: Vec<MemBlock>,
+        mut frames: Vec<Frame>,
+    ) -> Result<Memory, AllocError>
+        requires some_pages { 0 < length blocks.items }
+        requires most_pages { length blocks.items ≤ MAX_TOTAL_PAGES }
+        requires some_frames { 0 < length frames.items }
+        requires most_frames { length frames.items ≤ MAX_FRAMES }
+        ensures memory { IfOk result (λ memory. memory ≡ opening_memory blocks.items (length frames.items)) }
+        ensures sound { IfOk result (λ memory. IsMemory memory) }
+    {
+        let count = frames.len();
+        let mut free = Vec::with_capacity(alloc, count)?;
+        free.append(&mut frames)?;
+        Ok(Memory {
+            words: Words::open(alloc, blocks.len())?,
+            bodies: bodies_of(alloc, blocks)?,
+            free,
+            frames: count,
+            hand: 0,
+        })
+    }
+
+    /// Moves all frames into the list, which has room for them.
+    pub fn close(mut self, into: &mut Vec<Frame>)
+        requires room { vec_len into.old + self.frames ≤ vec_capacity into.old }
+        ensures { vec_len into.new ≡ vec_len into.old + self.frames }
+    {
+        match into.append(&mut self.free) {
+            Ok(()) => take_frames(self.bodies, into),
+            Err(_) => unreachable!(),
+        }
+    }
+
+    pub fn words(&self) -> &[Word]
+        ensures { result.now ≡ self.now.words }
+    {
+        self.words.as_slice()
+    }
+
+    /// How many pages are resident.
+    pub fn resident(&self) -> usize
+        ensures count { result ≡ resident_of self.now.words }
+        ensures most { result ≤ self.now.frames }
+    {
+        self.frames - self.free.len()
+    }
+
+    pub fn fields(&self, place: usize) -> Fields
+        requires { place < length self.now.words }
+        ensures word { result ≡ word_at self.now place }
+        ensures page { IsPage result (body_at self.now place) }
+    {
+        self.words.get(place).fields()
+    }
+
+    /// Sets the page's word, which is resident exactly where it was.
+    pub fn set_fields(&mut self, place: usize, fields: Fields)
+        requires place { place < length self.old.words }
+        requires permitted { is_permitted fields ≡ true }
+        requires resident { is_resident fields.content ≡ is_resident (word_at self.old place).content }
+        ensures { self.new ≡ with_word self.old place fields }
+    {
+        self.words.set(place, Word::new(fields));
+    }
+
+    /// Gives an order on the page.
+    pub fn order(&mut self, place: usize, code: Order) -> Old
+        requires { place < length self.old.words }
+        ensures old { result ≡ old_of (word_at self.old place) code }
+        ensures memory { self.new ≡ with_word self.old place (after_order (word_at self.old place) code) }
+    {
+        let (word, old) = apply_order(self.words.get(place), code);
+        self.words.set(place, word);
+        old
+    }
+
+    pub fn fetch(&self, place: usize, off: usize, into: &mut [u8])
+        requires place { place < length self.now.words }
+        requires resident { is_resident (word_at self.now place).content ≡ true }
+        requires within { off + length into.old ≤ PAGE }
+        ensures { into.new ≡ take (length into.old) (drop off (frame_bytes (body_at self.now place))) }
+    {
+        self.bodies[place].fetch(off, into);
+    }
+
+    /// Writes bytes of the page, and sets its change bit.
+    pub fn store(&mut self, place: usize, off: usize, from: &[u8])
+        requires place { place < length self.old.words }
+        requires resident { is_resident (word_at self.old place).content ≡ true }
+        requires within { off + length from.now ≤ PAGE }
+        ensures { self.new ≡ stored_at self.old place off from.now }
+    {
+        let body = &mut self.bodies[place];
+        body.store(off, from);
+        let word = self.words.get(place);
+        let changed = Word::new(Fields {
+            changed: true,
+            ..word.fields()
+        });
+        self.words.set(place, changed);
+    }
+
+    // Notes that the resident page is used.
+    fn use_page(&mut self, place: usize)
+        requires place { place < length self.old.words }
+        requires resident { is_resident (word_at self.old place).content ≡ true }
+        ensures { self.new ≡ with_use self.old place }
+    {
+        let word = self.words.get(place);
+        let changed = Word::new(Fields {
+            referenced: true,
+            ..word.fields()
+        });
+        self.words.set(place, changed);
+    }
+
+    fn discard(&mut self, place: usize)
+        requires place { place < length self.old.words }
+        requires allowed { is_ok (discard_answer (word_at self.old place)) ≡ true }
+        ensures { self.new ≡ discarded_at self.old place }
+    {
+        let word = self.words.get(place);
+        self.words.set(place, moved(word, Move::Discard));
+        let body = &mut self.bodies[place];
+        if let Some(frame) = body.discard() {
+            give_back(&mut self.free, frame);
+        }
+    }
+
+    fn preserve(&mut self, place: usize, pager: &mut MemPager) -> Result<(), Failed>
+        requires place { place < length self.old.words }
+        requires allowed { is_ok (preserve_answer (word_at self.old place)) ≡ true }
+        ensures done { is_ok result ≡ (moved_page Preserve self.old place pager.old).done }
+        ensures memory { self.new ≡ (moved_page Preserve self.old place pager.old).memory }
+        ensures pager { pager.new ≡ (moved_page Preserve self.old place pager.old).pager }
+    {
+        let body = &mut self.bodies[place];
+        match body.preserve(pager) {
+            Ok(frame) => {
+                let word = self.words.get(place);
+                self.words.set(place, moved(word, Move::Preserve));
+                give_back(&mut self.free, frame);
+                Ok(())
+            }
+            Err(failed) => Err(failed),
+        }
+    }
+
+    // Gets a preserved page back into a free frame.
+    fn bring(&mut self, place: usize, pager: &mut MemPager) -> Result<(), Failed>
+        requires place { place < length self.old.words }
+        requires preserved { is_preserved (word_at self.old place).content ≡ true }
+        requires frame { 0 < self.old.free }
+        ensures done { is_ok result ≡ (moved_page Bring self.old place pager.old).done }
+        ensures memory { self.new ≡ (moved_page Bring self.old place pager.old).memory }
+        ensures pager { pager.new ≡ (moved_page Bring self.old place pager.old).pager }
+    {
+        let frame = self.free.pop().unwrap();
+        let body = &mut self.bodies[place];
+        match body.bring(frame, pager) {
+            Ok(()) => {
+                let word = self.words.get(place);
+                self.words.set(place, moved(word, Move::Bring));
+                Ok(())
+            }
+            Err(unused) => {
+                give_back(&mut self.free, unused);
+                Err(Failed)
+            }
+        }
+    }
+
+    // Gives a page without contents a free frame of zeros.
+    fn fill_zeros(&mut self, place: usize)
+        requires place { place < length self.old.words }
+        requires zero { is_zero (word_at self.old place).content ≡ true }
+        requires frame { 0 < self.old.free }
+        ensures { self.new ≡ zeroed_at self.old place }
+    {
+        let frame = self.free.pop().unwrap();
+        let body = &mut self.bodies[place];
+        body.fill(frame);
+        let word = self.words.get(place);
+        let changed = Word::new(Fields {
+            content: Content::Resident,
+            ..word.fields()
+        });
+        self.words.set(place, changed);
+    }
+
+    // Ages what the hand passes, and moves the hand.
+    fn pass(&mut self, place: usize, hand: usize)
+        requires place { place < length self.old.words }
+        requires hand { hand < length self.old.words }
+        ensures { self.new ≡ passed_by self.old (place, hand) }
+    {
+        let count = passed(&self.words, self.hand, place);
+        self.words.age(self.hand, count);
+        self.hand = hand;
+    }
+
+    // The move by which the frame of a resident page is got.
+    #[tactic(auto, unfolding(crate::specs::Eviction::reclaimed_page))]
+    fn reclaim_page(&mut self, place: usize, pager: &mut MemPager) -> Result<(), Failed>
+        requires place { place < length self.old.words }
+        requires resident { is_resident (word_at self.old place).content ≡ true }
+        ensures done { is_ok result ≡ (reclaimed_page self.old place pager.old).done }
+        ensures memory { self.new ≡ (reclaimed_page self.old place pager.old).memory }
+        ensures pager { pager.new ≡ (reclaimed_page self.old place pager.old).pager }
+    {
+        match reclaiming_move(self.words.get(place)) {
+            Move::Discard => {
+                self.discard(place);
+                Ok(())
+            }
+            Move::Preserve => self.preserve(place, pager),
+            Move::Bring | Move::Age => unreachable!(),
+        }
+    }
+
+    // Takes the victim's frame.
+    #[tactic(auto, unfolding(crate::specs::Eviction::passed_by))]
+    fn evict_at(&mut self, place: usize, hand: usize, pager: &mut MemPager) -> Result<(), Failed>
+        requires place { place < length self.old.words }
+        requires hand { hand < length self.old.words }
+        requires resident { is_resident (word_at self.old place).content ≡ true }
+        ensures done { is_ok result ≡ (evicted_at self.old (Some (place, hand)) pager.old).done }
+        ensures memory { self.new ≡ (evicted_at self.old (Some (place, hand)) pager.old).memory }
+        ensures pager { pager.new ≡ (evicted_at self.old (Some (place, hand)) pager.old).pager }
+    {
+        self.pass(place, hand);
+        self.reclaim_page(place, pager)
+    }
+
+    // Sees to it that a frame is free. It fails where the pager does, and where no page could be taken.
+    #[tactic(auto, unfolding(crate::specs::Eviction::freed, crate::specs::Eviction::evicted))]
+    fn free_frame(&mut self, pager: &mut MemPager) -> Result<(), Failed>
+        ensures done { is_ok result ≡ (freed self.old pager.old).done }
+        ensures memory { self.new ≡ (freed self.old pager.old).memory }
+        ensures pager { pager.new ≡ (freed self.old pager.old).pager }
+        ensures frame { is_ok result ≡ true → 0 < self.new.free }
+        ensures count { length self.new.words ≡ length self.old.words }
+        ensures absent { (place : ℕ) → is_resident (word_at self.old place).content ≡ false → word_at self.new place ≡ word_at self.old place }
+    {
+        if !self.free.is_empty() {
+            return Ok(());
+        }
+        match self.words.victim(self.hand) {
+            Some((place, hand)) => self.evict_at(place, hand, pager),
+            None => Err(Failed),
+        }
+    }
+
+    // Gives a page that isn't resident a frame with its bytes.
+    fn fill(&mut self, place: usize, pager: &mut MemPager) -> Result<(), Failed>
+        requires place { place < length self.old.words }
+        requires absent { is_resident (word_at self.old place).content ≡ false }
+        requires frame { 0 < self.old.free }
+        ensures done { is_ok result ≡ (filled self.old place pager.old).done }
+        ensures memory { self.new ≡ (filled self.old place pager.old).memory }
+        ensures pager { pager.new ≡ (filled self.old place pager.old).pager }
+    {
+        if self.words.get(place).content() == Content::Preserved {
+            return self.bring(place, pager);
+        }
+        self.fill_zeros(place);
+        Ok(())
+    }
+
+    // Makes a page resident that isn't.
+    fn make_resident(&mut self, place: usize, pager: &mut MemPager) -> Result<(), Failed>
+        requires place { place < length self.old.words }
+        requires absent { is_resident (word_at self.old place).content ≡ false }
+        ensures done { is_ok result ≡ (filled_after (freed self.old pager.old) place).done }
+        ensures memory { self.new ≡ (filled_after (freed self.old pager.old) place).memory }
+        ensures pager { pager.new ≡ (filled_after (freed self.old pager.old) place).pager }
+        ensures resident { is_ok result ≡ true → is_resident (word_at self.new place).content ≡ true }
+        ensures count { length self.new.words ≡ length self.old.words }
+    {
+        match self.free_frame(pager) {
+            Ok(()) => self.fill(place, pager),
+            Err(failed) => Err(failed),
+        }
+    }
+
+    /// Makes a page resident and notes that it is used, unless it is discarded.
+    #[tactic(auto, unfolding(crate::specs::Touches::touched_page))]
+    pub fn touch(&mut self, place: usize, pager: &mut MemPager) -> Result<(), Trap>
+        requires place { place < length self.old.words }
+        ensures answer { result ≡ (touched_page self.old place pager.old).answer }
+        ensures memory { self.new ≡ (touched_page self.old place pager.old).memory }
+        ensures pager { pager.new ≡ (touched_page self.old place pager.old).pager }
+    {
+        let fields = self.words.get(place).fields();
+        if fields.is_discarded() {
+            return Err(Trap::Discarded);
+        }
+        if fields.content == Content::Resident {
+            self.use_page(place);
+            return Ok(());
+        }
+        match self.make_resident(place, pager) {
+            Ok(()) => {
+                self.use_page(place);
+                Ok(())
+            }
+            Err(_) => Err(Trap::Paging),
+        }
+    }
+
+    // A move that the page's word allows. A bring finds a frame first.
+    fn make_move(&mut self, place: usize, action: Move, pager: &mut MemPager) -> Result<(), Failed>
+        requires place { place < length self.old.words }
+        requires allowed { is_ok (move_answer (word_at self.old place) action) ≡ true }
+        ensures done { is_ok result ≡ (allowed_move action self.old place pager.old).done }
+        ensures memory { self.new ≡ (allowed_move action self.old place pager.old).memory }
+        ensures pager { pager.new ≡ (allowed_move action self.old place pager.old).pager }
+    {
+        match action {
+            Move::Discard => {
+                self.discard(place);
+                Ok(())
+            }
+            Move::Preserve => self.preserve(place, pager),
+            Move::Bring => match self.free_frame(pager) {
+                Ok(()) => self.bring(place, pager),
+                Err(failed) => Err(failed),
+            },
+            Move::Age => {
+                let word = self.words.get(place);
+                self.words.set(place, moved(word, Move::Age));
+                Ok(())
+            }
+        }
+    }
+
+    /// Makes a move on a page, if its word allows it.
+    #[tactic(auto, unfolding(crate::specs::HostMoves::applied))]
+    pub fn apply(
+        &mut self,
+        place: usize,
+        action: Move,
+        pager: &mut MemPager,
+    ) -> Result<(), ApplyError>
+        requires place { place < length self.old.words }
+        ensures answer { result ≡ (applied self.old place action pager.old).answer }
+        ensures memory { self.new ≡ (applied self.old place action pager.old).memory }
+        ensures pager { pager.new ≡ (applied self.old place action pager.old).pager }
+        ensures keeps { HostKeeps self.old self.new }
+    {
+        match host_move(self.words.get(place), action) {
+            Err(why) => Err(ApplyError::Refused(why)),
+            Ok(_) => match self.make_move(place, action, pager) {
+                Ok(()) => Ok(()),
+                Err(_) => Err(ApplyError::Paging),
+            },
+        }
+    }
+
+    /// Moves victims one after the other: `count` of them, fewer where no page can be taken or a put fails.
+    pub fn reclaim(&mut self, count: u32, pager: &mut MemPager) -> Reclaim
+        ensures count { result.count ≡ (reclaimed self.old pager.old count).count }
+        ensures paging { result.paging ≡ (reclaimed self.old pager.old count).paging }
+        ensures memory { self.new ≡ (reclaimed self.old pager.old count).memory }
+        ensures pager { pager.new ≡ (reclaimed self.old pager.old count).pager }
+    {
+        for moved in 0..count {
+            let Some((place, hand)) = self.words.victim(self.hand) else {
+                return Reclaim {
+                    count: moved,
+                    paging: false,
+                };
+            };
+            if self.evict_at(place, hand, pager).is_err() {
+                return Reclaim {
+                    count: moved,
+                    paging: true,
+                };
+            }
+        }
+        Reclaim {
+            count,
+            paging: false,
+        }
+    }
+}
