@@ -1,20 +1,23 @@
 ghost use Rattle.std.specs.Prelude.{◌≤◌, ◌↔◌, All, IsTrue};
 ghost use Rattle.cmm_types.specs.InRange.{GuestInRange, ScenarioInRange};
-ghost use Rattle.guest_rules.specs.Built.{IsRead, GuestIsBuilt};
+ghost use Rattle.guest_rules.specs.Built.{IsBuiltOp, GuestIsBuilt};
 ghost use Rattle.cmm_world.specs.Built.{IsBuilt};
 
 use cmm_types::{CpuPlan, GuestPlan, Op, Scenario, file_pages};
 
-fn is_read(op: &Op) -> bool
-    ensures { IsTrue result ↔ IsRead op.now }
+fn is_built_op(op: &Op) -> bool
+    ensures { IsTrue result ↔ IsBuiltOp op.now }
 {
-    matches!(op, Op::Read { .. })
+    matches!(
+        op,
+        Op::Read { .. } | Op::MapFile { .. } | Op::Load { .. } | Op::Store { .. }
+    )
 }
 
-fn reads_alone(cpu: &CpuPlan) -> bool
-    ensures { IsTrue result ↔ All IsRead cpu.now.commands }
+fn has_built_commands(cpu: &CpuPlan) -> bool
+    ensures { IsTrue result ↔ All IsBuiltOp cpu.now.commands }
 {
-    cpu.commands.as_slice().iter().all(is_read)
+    cpu.commands.as_slice().iter().all(is_built_op)
 }
 
 #[tactic(auto, using(cmm_types::specs::RangeLaws::file_pages_bound))]
@@ -22,7 +25,8 @@ fn is_built_guest(plan: &GuestPlan) -> bool
     requires { GuestInRange plan.now }
     ensures { IsTrue result ↔ GuestIsBuilt plan.now }
 {
-    plan.cpus.as_slice().iter().all(reads_alone) && file_pages(plan.files.as_slice()) <= plan.pages
+    plan.cpus.as_slice().iter().all(has_built_commands)
+        && file_pages(plan.files.as_slice()) <= plan.pages
 }
 
 /// Whether the world can play this plan by now.

@@ -1,3 +1,5 @@
+mod Entries
+mod Spots
 mod Ready
 mod Opened
 mod OtherTurns

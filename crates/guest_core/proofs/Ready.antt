@@ -1,23 +1,18 @@
 -- What the tables of a guest give the calls of its turns.
-use Rattle.std.proofs.Common.{◌≡◌, ◌<◌, ℕ, List, ◌∷◌, length, Contains, Some, None, sym, subst, ◌∙◌}
-use Rattle.cmm_types.specs.declared.page.Tag.{Tag}
+use Rattle.std.proofs.Common.{◌≡◌, ◌<◌, ℕ, [], ◌∷◌, length, drop, Contains, Option, Some, MatchOption, sym, subst, arith}
+use Rattle.cmm_io.specs.DiskView.{DiskView}
+use Rattle.cmm_storage.specs.StorageView.{StorageView}
 use Rattle.guest_pages.specs.PagesLaws.{Contains-first}
-use Rattle.guest_cache.specs.CacheView.{IsTag, page_of}
-use Rattle.guest_rules.specs.declared.parts.Parts.{Parts}
-use Rattle.guest_rules.specs.Fit.{PagesFit}
-
--- a page that the index has is one of the pages
-pub found_below : (parts : Parts) (tag : Tag) (page : ℕ) → PagesFit parts → IsTag parts.cache tag → page_of parts.cache tag ≡ Some page → page < length parts.pages.infos
-found_below parts tag page fit is found = (fit.found page tag is found).0
-
--- and isn't free
-pub found_not_free : (parts : Parts) (tag : Tag) (page : ℕ) → PagesFit parts → IsTag parts.cache tag → page_of parts.cache tag ≡ Some page → Contains parts.pages.free page → ⊥
-found_not_free parts tag page fit is found there =
-    let none : None ≡ Some tag = sym (fit.free page there).1 ∙ (fit.found page tag is found).1 in
-    cc
+use Rattle.guest_rules.specs.GuestState.{GuestState}
+use Rattle.guest_rules.specs.Fit.{Fit}
 
 -- the next free page is one of the pages
-pub free_below : (parts : Parts) (page : ℕ) (rest : List ℕ) → PagesFit parts → parts.pages.free ≡ page ∷ rest → page < length parts.pages.infos
-free_below parts page rest fit is = (fit.free page (subst (λ free. Contains free page) (sym is) (Contains-first page rest))).0
+pub next_below : (g : GuestState) (v : StorageView) (d : DiskView) (page : ℕ) (o : Option ℕ) → Fit g v d
+    → MatchOption o (g.parts.pages.free ≡ []) (λ page. g.parts.pages.free ≡ page ∷ drop 1 g.parts.pages.free) → o ≡ Some page → page < length g.parts.pages.infos
+next_below g v d page o f top is =
+    let first : g.parts.pages.free ≡ page ∷ drop 1 g.parts.pages.free = rw is at top in
+    (f.pages.free page (subst (λ free. Contains free page) (sym first) (Contains-first page (drop 1 g.parts.pages.free)))).0
 
-pub ruleset ready = (found_below, found_not_free, free_below)
+pub next_below_view : (g : GuestState) (v : StorageView) (d : DiskView) (page : ℕ) (o : Option ℕ) → Fit g v d
+    → MatchOption o (g.parts.pages.free ≡ []) (λ page. g.parts.pages.free ≡ page ∷ drop 1 g.parts.pages.free) → o ≡ Some page → page < v.pages
+next_below_view g v d page o f top is = omega (arith, next_below g v d page o f top is, f.sizes.infos, f.sizes.pages)

@@ -1,36 +1,48 @@
-ghost use Rattle.std.specs.Prelude.{◌≡◌, ◌≤◌, ◌<◌, ◌+◌, ◌/◌, ◌%◌, ◌^◌, ◌↔◌, [], ◌∷◌, length, drop, None, Some, true, Contains, IfOk, IfSome, MatchOption, IsTrue};
+ghost use Rattle.std.specs.Prelude.{◌≡◌, ℕ, ◌≤◌, ◌<◌, ◌+◌, ◌*◌, ◌/◌, ◌%◌, ◌^◌, ◌↔◌, [], ◌∷◌, length, drop, None, Some, true, false, Contains, IfOk, IfSome, IsSome, MatchOption, IsTrue};
 ghost use Rattle.cmm_types.specs.declared.page.TheConstants.{PAGE};
 ghost use Rattle.cmm_types.specs.declared.bytes.TheConstants.{MAX_BYTES};
-ghost use Rattle.cmm_types.specs.declared.page.Tag.TheVariants.{File};
-ghost use Rattle.cmm_types.specs.declared.command.Op.TheVariants.{Read};
-ghost use Rattle.cmm_types.specs.InRange.{GuestInRange};
+ghost use Rattle.cmm_types.specs.declared.command.TheConstants.{MAX_MAPPING_NUMBERS, MAX_MAPPING_PAGES};
+ghost use Rattle.cmm_types.specs.declared.command.Op.TheVariants.{Read, Load, Store};
+ghost use Rattle.cmm_types.specs.declared.plan.TheConstants.{MAX_MAPPING_SLOTS, MAX_PROCESSES};
+ghost use Rattle.cmm_types.specs.declared.turn.Turn.TheVariants.{Finished};
+ghost use Rattle.cmm_types.specs.InRange.{ArePages, GuestInRange, OpInRange};
 ghost use Rattle.cmm_io.specs.DiskView.{DiskView};
-ghost use Rattle.cmm_flat.specs.Legal.{command_of};
-ghost use Rattle.cmm_storage.specs.Program.{Does, DoesAlone};
+ghost use Rattle.cmm_flat.specs.Legal.{command_of, process_of};
+ghost use Rattle.essa_state.specs.StateWord.{is_unused};
+ghost use Rattle.cmm_storage.specs.StorageView.{can_store};
+ghost use Rattle.cmm_storage.specs.Program.{done, Does, DoesAlone};
 ghost use Rattle.guest_pages.specs.PagesView.{info_at};
 ghost use Rattle.guest_cache.specs.CacheView.{IsTag, page_of};
+ghost use Rattle.guest_maps.specs.MapsView.{IsMapping, IsPlace, entry_at, find_slot, free_slot, spot_at};
 ghost use Rattle.guest_rules.specs.declared.processor.Phase.TheVariants.{Start, Fill};
 ghost use Rattle.guest_rules.specs.GuestState.{opening_guest, processor_at, with_phase, entered};
 ghost use Rattle.guest_rules.specs.Rows.{backing_at};
-ghost use Rattle.guest_rules.specs.Turns.{has_bytes, begun, begin_turn, use_turn, start_tagged, start_turn, fill_turn, turn};
+ghost use Rattle.guest_rules.specs.Turns.{refusal_of_new, refusal_in, has_bytes, begun, begin_turn, use_turn, hit_turn, resolve_turn, start_tagged, start_entry, start_mapped, map_turn, start_accepted, start_turn, fill_turn, turn};
 ghost use Rattle.guest_rules.specs.Built.{GuestIsBuilt};
-ghost use Rattle.guest_rules.specs.Fit.{PagesFit, Fit, all_commands};
+ghost use Rattle.guest_rules.specs.Fit.{Fit, all_commands};
 ghost use Rattle.guest_rules.specs.Cause.{TurnCause, AloneCause, NoWrongDiscard};
 ghost use Rattle.guest_rules.specs.Alone.{alone};
+ghost use Rattle.guest_rules.proofs.TurnCases.{Starts, Wants};
+ghost use Rattle.guest_rules.proofs.ReadyCalls.{CanBeUsed};
+ghost use Rattle.guest_rules.proofs.Reached.{Reaches};
+ghost use Rattle.guest_core.specs.Between.{IsFit, Hits, serving};
 
 use crate::copies::copy_plan;
-use crate::plans::{all_commands, command, has_bytes, pages_of_files};
+use crate::plans::{all_commands, command, has_bytes, pages_of_files, process};
+use crate::refusals::refusal_at;
 use cmm_io::Disk;
 use cmm_storage::{Busy, Storage};
 use cmm_types::{
-    Alone, Cause, Entry, FlatRefusal, GuestPlan, MAX_MAPPING_SLOTS, Op, PAGE, Reply, Tag, Turn, Why,
+    Alone, Bytes64, Cause, Entry, FlatRefusal, GuestPlan, MAX_LIVE_MAPPINGS, MAX_MAPPING_SLOTS, Op,
+    PAGE, Reply, Tag, Turn, Why,
 };
 use essa_state::Order;
 use guest_cache::Cache;
-use guest_fault::fill;
-use guest_io::read_page;
+use guest_fault::{fill, resolve};
+use guest_io::{load_page, read_page, store_through};
+use guest_maps::{Maps, Pte, Shown, Spot};
 use guest_pages::{PageInfo, Pages};
-use guest_rules::{Filled, Missed, Parts, Phase, Processor};
+use guest_rules::{Filled, Missed, Parts, Phase, Processor, Resolved};
 use std::alloc::{AllocError, Global};
 use std::marker::Model;
 
@@ -82,6 +94,22 @@ fn begin(parts: &mut Parts, page: u32, tag: Tag, cpu: u32)
     parts.cache.insert(tag, page);
 }
 
+/// The page of an entry that serves a load, or a store where it `writes`.
+fn serving(writes: bool, pte: Option<Pte>) -> Option<u32>
+    ensures { result ≡ serving writes pte }
+{
+    match pte {
+        None => None,
+        Some(pte) => {
+            if writes && !pte.writable {
+                None
+            } else {
+                Some(pte.page)
+            }
+        }
+    }
+}
+
 impl Guest {
     /// A guest before its first turn. It takes all memory that the guest ever needs.
     pub fn open(alloc: Global, plan: &GuestPlan) -> Result<Guest, AllocError>
@@ -93,6 +121,7 @@ impl Guest {
         let parts = Parts {
             pages: Pages::open(alloc, plan.pages)?,
             cache: Cache::open(alloc, &files, plan.swap, MAX_MAPPING_SLOTS)?,
+            maps: Maps::open(alloc, plan.pages)?,
             faults: 0,
         };
         let start = Processor {
@@ -157,6 +186,13 @@ impl Guest {
         ensures { result ≡ command_of self.now.plan cpu (processor_at self.now cpu).place }
     {
         command(&self.plan, cpu, self.processor(cpu).place)
+    }
+
+    /// The process of a processor.
+    fn process(&self, cpu: u32) -> u32
+        ensures { result ≡ process_of self.now.plan cpu }
+    {
+        process(&self.plan, cpu)
     }
 
     /// Writes a reply into the journal; the processor goes on to its next command.
@@ -233,6 +269,7 @@ impl Guest {
         requires pages { page < (St.view st.old).pages }
         requires not_free { Contains self.old.parts.pages.free page → ⊥ }
         requires tag { IfSome (info_at self.old.parts.pages page).tag (λ tag. IsTag self.old.parts.cache tag) }
+        requires shown { page < self.old.parts.maps.pages }
         requires few { len ≤ MAX_BYTES }
         requires within { off % PAGE + len ≤ PAGE }
         requires none_held { (St.view st.old).held ≡ None }
@@ -253,6 +290,170 @@ impl Guest {
         }
     }
 
+    /// Loads the command's bytes through the entry that shows the page.
+    #[tactic(auto, using(cmm_storage::specs::Runs::runs), unfolding(guest_rules::specs::Turns::hit_turn))]
+    fn load_turn<St: Storage>(
+        &mut self,
+        cpu: u32,
+        st: &mut St,
+        map: u32,
+        off: u32,
+        len: u32,
+        page: u32,
+    ) -> Turn
+        requires cpu { cpu < length self.old.processors }
+        requires room { length self.old.journal < all_commands self.old.plan }
+        requires place { (processor_at self.old cpu).place + 1 < 2 ^ 32 }
+        requires page { page < length self.old.parts.pages.infos }
+        requires pages { page < (St.view st.old).pages }
+        requires not_free { Contains self.old.parts.pages.free page → ⊥ }
+        requires tag { IfSome (info_at self.old.parts.pages page).tag (λ tag. IsTag self.old.parts.cache tag) }
+        requires shown { page < self.old.parts.maps.pages }
+        requires used { is_unused ((St.view st.old).values page).usage ≡ false }
+        requires few { len ≤ MAX_BYTES }
+        requires within { off % PAGE + len ≤ PAGE }
+        requires none_held { (St.view st.old).held ≡ None }
+        ensures row { DoesAlone St.step (hit_turn self.old cpu (Load map off len) page) st.old (self.new, result) st.new }
+    {
+        let op = Op::Load { map, off, len };
+        match load_page(&mut self.parts, st, page, off % PAGE as u32, len) {
+            Ok(bytes) => {
+                self.enter(cpu, op, Reply::Bytes(bytes));
+                Turn::Finished
+            }
+            Err(Missed::Gone) => Turn::Moved,
+            Err(Missed::Again { why }) => Turn::Again { why },
+            Err(Missed::Fail(cause)) => {
+                self.enter(cpu, op, Reply::Fail(cause));
+                Turn::Finished
+            }
+        }
+    }
+
+    /// Stores the command's bytes through the writable entry that shows the page.
+    #[tactic(auto, using(cmm_storage::specs::Runs::runs), unfolding(guest_rules::specs::Turns::hit_turn))]
+    fn store_turn<St: Storage>(
+        &mut self,
+        cpu: u32,
+        st: &mut St,
+        map: u32,
+        off: u32,
+        bytes: &Bytes64,
+        page: u32,
+    ) -> Turn
+        requires cpu { cpu < length self.old.processors }
+        requires room { length self.old.journal < all_commands self.old.plan }
+        requires place { (processor_at self.old cpu).place + 1 < 2 ^ 32 }
+        requires page { page < length self.old.parts.pages.infos }
+        requires pages { page < (St.view st.old).pages }
+        requires not_free { Contains self.old.parts.pages.free page → ⊥ }
+        requires tag { IfSome (info_at self.old.parts.pages page).tag (λ tag. IsTag self.old.parts.cache tag) }
+        requires shown { page < self.old.parts.maps.pages }
+        requires writable { can_store ((St.view st.old).values page).usage ≡ true }
+        requires within { off % PAGE + length bytes.now ≤ PAGE }
+        requires none_held { (St.view st.old).held ≡ None }
+        ensures row { DoesAlone St.step (hit_turn self.old cpu (Store map off bytes.now) page) st.old (self.new, result) st.new }
+    {
+        match store_through(&mut self.parts, st, page, off % PAGE as u32, bytes) {
+            Ok(()) => {
+                let bytes = bytes.copy();
+                self.enter(cpu, Op::Store { map, off, bytes }, Reply::Done);
+                Turn::Finished
+            }
+            Err(Missed::Gone) => Turn::Moved,
+            Err(Missed::Again { why }) => Turn::Again { why },
+            Err(Missed::Fail(cause)) => {
+                let bytes = bytes.copy();
+                self.enter(cpu, Op::Store { map, off, bytes }, Reply::Fail(cause));
+                Turn::Finished
+            }
+        }
+    }
+
+    /// The slot of the processor's mapping of that number.
+    fn slot_of(&self, cpu: u32, map: u32) -> Option<u32>
+        requires process { process_of self.now.plan cpu < MAX_PROCESSES }
+        requires map { map < MAX_MAPPING_NUMBERS }
+        ensures { result ≡ find_slot self.now.parts.maps (process_of self.now.plan cpu) map }
+    {
+        self.parts.maps.find(self.process(cpu), map)
+    }
+
+    /// Lets the entry at the command's place show the page.
+    #[tactic(auto, using(cmm_storage::specs::Runs::runs))]
+    fn resolve_turn<St: Storage>(
+        &mut self,
+        cpu: u32,
+        st: &mut St,
+        page: u32,
+        map: u32,
+        off: u32,
+        writable: bool,
+    ) -> Turn
+        requires process { process_of self.old.plan cpu < MAX_PROCESSES }
+        requires map { map < MAX_MAPPING_NUMBERS }
+        requires page { page < length self.old.parts.pages.infos }
+        requires pages { page < (St.view st.old).pages }
+        requires not_free { Contains self.old.parts.pages.free page → ⊥ }
+        requires tag { IfSome (info_at self.old.parts.pages page).tag (λ tag. IsTag self.old.parts.cache tag) }
+        requires shown { page < self.old.parts.maps.pages }
+        requires writers { (info_at self.old.parts.pages page).writers ≤ MAX_MAPPING_SLOTS * MAX_MAPPING_PAGES }
+        requires is_place { (slot : ℕ) → find_slot self.old.parts.maps (process_of self.old.plan cpu) map ≡ Some slot → IsPlace self.old.parts.maps slot (off / PAGE) }
+        requires none_held { (St.view st.old).held ≡ None }
+        ensures row { DoesAlone St.step (resolve_turn self.old cpu page map off writable) st.old (self.new, result) st.new }
+    {
+        match self.slot_of(cpu, map) {
+            None => Turn::Idle,
+            Some(slot) => match resolve(
+                &mut self.parts,
+                st,
+                page,
+                slot,
+                off / PAGE as u32,
+                writable,
+            ) {
+                Resolved::Mapped | Resolved::Gone => Turn::Moved,
+                Resolved::Again { why } => Turn::Again { why },
+            },
+        }
+    }
+
+    /// The command finds its page up to date.
+    #[tactic(auto, using(cmm_storage::specs::Runs::runs), unfolding(guest_rules::specs::Turns::use_turn))]
+    fn use_turn<St: Storage>(&mut self, cpu: u32, st: &mut St, op: &Op, page: u32) -> Turn
+        requires cpu { cpu < length self.old.processors }
+        requires room { length self.old.journal < all_commands self.old.plan }
+        requires place { (processor_at self.old cpu).place + 1 < 2 ^ 32 }
+        requires fit { IsFit self.old (St.view st.old) }
+        requires starts { Starts self.old cpu op.now }
+        requires usable { CanBeUsed self.old (St.view st.old) page }
+        ensures row { DoesAlone St.step (use_turn self.old cpu op.now page) st.old (self.new, result) st.new }
+    {
+        match op {
+            Op::Read { file, off, len } => self.read_turn(cpu, st, *file, *off, *len, page),
+            Op::Load { map, off, len: _ } => self.resolve_turn(cpu, st, page, *map, *off, false),
+            Op::Store { map, off, bytes: _ } => self.resolve_turn(cpu, st, page, *map, *off, true),
+            _ => Turn::Idle,
+        }
+    }
+
+    /// A load or a store finds its entry, which shows the page.
+    #[tactic(auto, using(cmm_storage::specs::Runs::runs), unfolding(guest_rules::specs::Turns::hit_turn))]
+    fn hit_turn<St: Storage>(&mut self, cpu: u32, st: &mut St, op: &Op, page: u32) -> Turn
+        requires cpu { cpu < length self.old.processors }
+        requires room { length self.old.journal < all_commands self.old.plan }
+        requires place { (processor_at self.old cpu).place + 1 < 2 ^ 32 }
+        requires fit { IsFit self.old (St.view st.old) }
+        requires hits { Hits self.old cpu op.now page }
+        ensures row { DoesAlone St.step (hit_turn self.old cpu op.now page) st.old (self.new, result) st.new }
+    {
+        match op {
+            Op::Load { map, off, len } => self.load_turn(cpu, st, *map, *off, *len, page),
+            Op::Store { map, off, bytes } => self.store_turn(cpu, st, *map, *off, bytes, page),
+            _ => Turn::Idle,
+        }
+    }
+
     /// The turn of a processor that fills a page.
     #[tactic(auto, using(cmm_storage::specs::Runs::runs), unfolding(guest_rules::specs::Turns::fill_turn))]
     fn fill_turn<St: Storage, D: Disk>(
@@ -270,6 +471,7 @@ impl Guest {
         requires pages { page < (St.view st.old).pages }
         requires not_free { Contains self.old.parts.pages.free page → ⊥ }
         requires tag { IfSome (info_at self.old.parts.pages page).tag (λ tag. IsTag self.old.parts.cache tag) }
+        requires shown { page < self.old.parts.maps.pages }
         requires block { IfSome (backing_at self.old.parts page) (λ block. block < (D.view disk.old).count) }
         requires none_held { (St.view st.old).held ≡ None }
         ensures row { Does St.step D.step (fill_turn self.old cpu op page) st.old disk.old (self.new, result) st.new disk.new }
@@ -309,29 +511,17 @@ impl Guest {
         self.parts.pages.top()
     }
 
-    /// A read of bytes that there are, by whether and how its page has their tag.
-    #[tactic(auto, using(cmm_storage::specs::Runs::runs, crate::proofs::Ready::ready))]
-    fn start_tagged<St: Storage>(
-        &mut self,
-        cpu: u32,
-        st: &mut St,
-        file: u32,
-        off: u32,
-        len: u32,
-    ) -> Turn
+    /// The command needs a page with that tag, which it has, or is to get.
+    #[tactic(auto, using(cmm_storage::specs::Runs::runs))]
+    fn start_tagged<St: Storage>(&mut self, cpu: u32, st: &mut St, op: &Op, tag: Tag) -> Turn
         requires cpu { cpu < length self.old.processors }
         requires room { length self.old.journal < all_commands self.old.plan }
         requires place { (processor_at self.old cpu).place + 1 < 2 ^ 32 }
-        requires few { len ≤ MAX_BYTES }
-        requires within { off % PAGE + len ≤ PAGE }
-        requires tag { IsTag self.old.parts.cache (File file (off / PAGE)) }
-        requires pages { PagesFit self.old.parts }
-        requires size { length self.old.parts.pages.infos ≡ (St.view st.old).pages }
-        requires none_held { (St.view st.old).held ≡ None }
-        ensures row { DoesAlone St.step (start_tagged self.old cpu (Read file off len) (File file (off / PAGE))) st.old (self.new, result) st.new }
+        requires fit { IsFit self.old (St.view st.old) }
+        requires starts { Starts self.old cpu op.now }
+        requires wants { Wants self.old cpu op.now tag }
+        ensures row { DoesAlone St.step (start_tagged self.old cpu op.now tag) st.old (self.new, result) st.new }
     {
-        let index = off / PAGE as u32;
-        let tag = Tag::File { file, index };
         match self.page_with(tag) {
             None => match self.next_free() {
                 None => {
@@ -339,45 +529,212 @@ impl Guest {
                         pinned: 0,
                         unslotted: self.plan.pages,
                     });
-                    self.enter(cpu, Op::Read { file, off, len }, reply);
+                    self.enter(cpu, op.copy(), reply);
                     Turn::Finished
                 }
                 Some(page) => self.begin_turn(cpu, st, tag, page),
             },
             Some(page) => match self.info(page).owner {
                 Some(owner) => Turn::Waits { page, owner },
-                None => self.read_turn(cpu, st, file, off, len, page),
+                None => self.use_turn(cpu, st, op, page),
             },
         }
     }
 
-    /// The turn of a processor that looks at its command, a read.
-    #[tactic(auto, using(cmm_storage::specs::Runs::runs), unfolding(guest_rules::specs::Turns::start_turn))]
-    fn start_read<St: Storage>(
+    /// A place of a mapping that has it.
+    fn spot(&self, slot: u32, index: u32) -> Spot
+        requires slot { slot < length self.now.parts.maps.slots }
+        requires there { IsSome (spot_at self.now.parts.maps slot index) }
+        ensures { spot_at self.now.parts.maps slot index ≡ Some result }
+    {
+        self.parts.maps.spot(slot, index).unwrap()
+    }
+
+    /// A load or a store at its place, which the slot's mapping has: through the entry there, where it serves.
+    fn start_entry<St: Storage>(
         &mut self,
         cpu: u32,
         st: &mut St,
-        file: u32,
+        op: &Op,
+        writes: bool,
+        slot: u32,
         off: u32,
-        len: u32,
     ) -> Turn
         requires cpu { cpu < length self.old.processors }
         requires room { length self.old.journal < all_commands self.old.plan }
         requires place { (processor_at self.old cpu).place + 1 < 2 ^ 32 }
-        requires few { len ≤ MAX_BYTES }
-        requires within { off % PAGE + len ≤ PAGE }
-        requires tag { has_bytes self.old.plan.files file off len ≡ true → IsTag self.old.parts.cache (File file (off / PAGE)) }
-        requires pages { PagesFit self.old.parts }
-        requires size { length self.old.parts.pages.infos ≡ (St.view st.old).pages }
-        requires none_held { (St.view st.old).held ≡ None }
-        ensures row { DoesAlone St.step (start_turn self.old cpu (Read file off len)) st.old (self.new, result) st.new }
+        requires fit { IsFit self.old (St.view st.old) }
+        requires slot { slot < length self.old.parts.maps.slots }
+        requires reaches { Reaches self.old cpu op.now writes slot off }
+        ensures row { DoesAlone St.step (start_entry self.old cpu op.now writes slot (off / PAGE) (entry_at self.old.parts.maps slot (off / PAGE))) st.old (self.new, result) st.new }
     {
-        if self.has_bytes(file, off, len) {
-            self.start_tagged(cpu, st, file, off, len)
-        } else {
-            let reply = Reply::Refused(FlatRefusal::OutOfRange);
-            self.enter(cpu, Op::Read { file, off, len }, reply);
-            Turn::Finished
+        let there = self.spot(slot, off / PAGE as u32);
+        match serving(writes, there.pte) {
+            None => self.start_tagged(cpu, st, op, there.tag),
+            Some(page) => self.hit_turn(cpu, st, op, page),
+        }
+    }
+
+    /// A load, or a store where it `writes`, through the processor's mapping of that number.
+    fn start_mapped<St: Storage>(
+        &mut self,
+        cpu: u32,
+        st: &mut St,
+        op: &Op,
+        writes: bool,
+        map: u32,
+        off: u32,
+    ) -> Turn
+        requires cpu { cpu < length self.old.processors }
+        requires room { length self.old.journal < all_commands self.old.plan }
+        requires place { (processor_at self.old cpu).place + 1 < 2 ^ 32 }
+        requires fit { IsFit self.old (St.view st.old) }
+        requires process { process_of self.old.plan cpu < MAX_PROCESSES }
+        requires map { map < MAX_MAPPING_NUMBERS }
+        requires reaches { (slot : ℕ) → find_slot self.old.parts.maps (process_of self.old.plan cpu) map ≡ Some slot → Reaches self.old cpu op.now writes slot off }
+        ensures row { DoesAlone St.step (start_mapped self.old cpu op.now writes off (find_slot self.old.parts.maps (process_of self.old.plan cpu) map)) st.old (self.new, result) st.new }
+    {
+        match self.slot_of(cpu, map) {
+            None => Turn::Idle,
+            Some(slot) => self.start_entry(cpu, st, op, writes, slot, off),
+        }
+    }
+
+    /// The lowest free slot gets the new mapping.
+    fn map_turn(&mut self, cpu: u32, op: &Op, map: u32, shown: Shown, count: u32) -> Turn
+        requires cpu { cpu < length self.old.processors }
+        requires room { length self.old.journal < all_commands self.old.plan }
+        requires place { (processor_at self.old cpu).place + 1 < 2 ^ 32 }
+        requires range { IsMapping (process_of self.old.plan cpu) map shown count }
+        requires new { find_slot self.old.parts.maps (process_of self.old.plan cpu) map ≡ None }
+        requires free { IsSome (free_slot self.old.parts.maps) }
+        ensures row { map_turn self.old cpu op.now map shown count (free_slot self.old.parts.maps) ≡ done (self.new, result) }
+    {
+        let process = self.process(cpu);
+        self.parts.maps.add(process, map, shown, count);
+        self.enter(cpu, op.copy(), Reply::Done);
+        Turn::Finished
+    }
+
+    /// A command that isn't refused.
+    #[tactic(auto, using(cmm_storage::specs::Runs::runs))]
+    fn start_accepted<St: Storage>(&mut self, cpu: u32, st: &mut St, op: &Op) -> Turn
+        requires cpu { cpu < length self.old.processors }
+        requires room { length self.old.journal < all_commands self.old.plan }
+        requires place { (processor_at self.old cpu).place + 1 < 2 ^ 32 }
+        requires fit { IsFit self.old (St.view st.old) }
+        requires starts { Starts self.old cpu op.now }
+        ensures row { DoesAlone St.step (start_accepted self.old cpu op.now) st.old (self.new, result) st.new }
+    {
+        match op {
+            Op::Read { file, off, len: _ } => {
+                let index = *off / PAGE as u32;
+                self.start_tagged(cpu, st, op, Tag::File { file: *file, index })
+            }
+            Op::MapFile {
+                map,
+                file,
+                first,
+                count,
+                writable,
+            } => {
+                let shown = Shown::File {
+                    file: *file,
+                    first: *first,
+                    writable: *writable,
+                };
+                self.map_turn(cpu, op, *map, shown, *count)
+            }
+            Op::Load { map, off, len: _ } => self.start_mapped(cpu, st, op, false, *map, *off),
+            Op::Store { map, off, bytes: _ } => self.start_mapped(cpu, st, op, true, *map, *off),
+            _ => Turn::Idle,
+        }
+    }
+
+    /// Why a new mapping of `count` pages of a file from page `first` on is refused.
+    fn refusal_of_new(
+        &self,
+        process: u32,
+        map: u32,
+        file: u32,
+        first: u32,
+        count: u32,
+    ) -> Option<FlatRefusal>
+        requires process { process < MAX_PROCESSES }
+        requires map { map < MAX_MAPPING_NUMBERS }
+        requires pages { ArePages first count }
+        ensures { result ≡ refusal_of_new self.now file first count (find_slot self.now.parts.maps process map) }
+    {
+        match self.parts.maps.find(process, map) {
+            Some(_) => Some(FlatRefusal::AlreadyMapped),
+            None => {
+                if !self.has_bytes(file, PAGE as u32 * first, PAGE as u32 * count) {
+                    Some(FlatRefusal::OutOfRange)
+                } else if self.parts.maps.live() >= MAX_LIVE_MAPPINGS {
+                    Some(FlatRefusal::TooManyMaps)
+                } else {
+                    None
+                }
+            }
+        }
+    }
+
+    /// Why a command of a process is refused.
+    fn refusal(&self, process: u32, op: &Op) -> Option<FlatRefusal>
+        requires process { process < MAX_PROCESSES }
+        requires range { OpInRange op.now }
+        ensures { result ≡ refusal_in self.now process op.now }
+    {
+        let maps = &self.parts.maps;
+        match op {
+            Op::Read { file, off, len } => {
+                if self.has_bytes(*file, *off, *len) {
+                    None
+                } else {
+                    Some(FlatRefusal::OutOfRange)
+                }
+            }
+            Op::MapFile {
+                map,
+                file,
+                first,
+                count,
+                writable: _,
+            } => self.refusal_of_new(process, *map, *file, *first, *count),
+            Op::Load { map, off, len } => refusal_at(maps, false, process, *map, *off, *len),
+            Op::Store { map, off, bytes } => {
+                refusal_at(maps, true, process, *map, *off, bytes.len() as u32)
+            }
+            _ => None,
+        }
+    }
+
+    /// Why a command of the processor is refused.
+    fn refusal_on(&self, cpu: u32, op: &Op) -> Option<FlatRefusal>
+        requires process { process_of self.now.plan cpu < MAX_PROCESSES }
+        requires range { OpInRange op.now }
+        ensures { result ≡ refusal_in self.now (process_of self.now.plan cpu) op.now }
+    {
+        self.refusal(self.process(cpu), op)
+    }
+
+    /// The turn of a processor that looks at its command.
+    #[tactic(auto, using(cmm_storage::specs::Runs::runs), unfolding(guest_rules::specs::Turns::start_turn))]
+    fn start_turn<St: Storage>(&mut self, cpu: u32, st: &mut St, op: &Op) -> Turn
+        requires cpu { cpu < length self.old.processors }
+        requires room { length self.old.journal < all_commands self.old.plan }
+        requires place { (processor_at self.old cpu).place + 1 < 2 ^ 32 }
+        requires fit { IsFit self.old (St.view st.old) }
+        requires command { command_of self.old.plan cpu (processor_at self.old cpu).place ≡ Some op.now }
+        requires start { (processor_at self.old cpu).phase ≡ Start }
+        ensures row { DoesAlone St.step (start_turn self.old cpu op.now) st.old (self.new, result) st.new }
+    {
+        match self.refusal_on(cpu, op) {
+            Some(refusal) => {
+                self.enter(cpu, op.copy(), Reply::Refused(refusal));
+                Turn::Finished
+            }
+            None => self.start_accepted(cpu, st, op),
         }
     }
 
@@ -391,10 +748,7 @@ impl Guest {
         match self.command(cpu) {
             None => Turn::Idle,
             Some(op) => match self.processor(cpu).phase {
-                Phase::Start => match op {
-                    Op::Read { file, off, len } => self.start_read(cpu, st, file, off, len),
-                    _ => Turn::Idle,
-                },
+                Phase::Start => self.start_turn(cpu, st, &op),
                 Phase::Fill { page } => self.fill_turn(cpu, st, disk, op, page),
             },
         }

@@ -4,6 +4,7 @@
 mod copies;
 mod guest;
 mod plans;
+mod refusals;
 #[cfg(test)]
 mod tests;
 

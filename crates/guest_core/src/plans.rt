@@ -1,7 +1,7 @@
 // What a guest's plan says of a command.
 ghost use Rattle.std.specs.Prelude.{◌≡◌, map, IfOk};
 ghost use Rattle.cmm_types.specs.InRange.{GuestInRange};
-ghost use Rattle.cmm_flat.specs.Legal.{command_of};
+ghost use Rattle.cmm_flat.specs.Legal.{command_of, process_of};
 ghost use Rattle.guest_rules.specs.Turns.{file_pages, has_bytes};
 ghost use Rattle.guest_rules.specs.Fit.{all_commands};
 
@@ -15,6 +15,16 @@ pub fn command(plan: &GuestPlan, cpu: u32, place: u32) -> Option<Op>
     let its = plan.cpus.as_slice().get(cpu as usize)?;
     let op = its.commands.as_slice().get(place as usize)?;
     Some(op.copy())
+}
+
+/// The process of a processor; 0 where there is no such processor.
+pub fn process(plan: &GuestPlan, cpu: u32) -> u32
+    ensures { result ≡ process_of plan.now cpu }
+{
+    match plan.cpus.as_slice().get(cpu as usize) {
+        None => 0,
+        Some(its) => its.process,
+    }
 }
 
 /// The pages of a file; 0 where there is no such file.

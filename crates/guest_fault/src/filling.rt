@@ -31,6 +31,7 @@ fn give_up<St: Storage>(parts: &mut Parts, st: &mut St, page: u32, cause: Cause)
     requires page { page < length parts.old.pages.infos }
     requires not_free { Contains parts.old.pages.free page → ⊥ }
     requires tag { IfSome (info_at parts.old.pages page).tag (λ tag. IsTag parts.old.cache tag) }
+    requires shown { page < parts.old.maps.pages }
     requires held { (St.view st.old).held ≡ Some page }
     ensures row { DoesAlone St.step (give_up parts.old page cause) st.old (parts.new, result) st.new }
     ensures none_held { (St.view st.new).held ≡ None }
@@ -68,6 +69,7 @@ fn miss<St: Storage>(parts: &mut Parts, st: &mut St, page: u32, trap: Trap) -> F
     requires page { page < length parts.old.pages.infos }
     requires not_free { Contains parts.old.pages.free page → ⊥ }
     requires tag { IfSome (info_at parts.old.pages page).tag (λ tag. IsTag parts.old.cache tag) }
+    requires shown { page < parts.old.maps.pages }
     requires held { (St.view st.old).held ≡ Some page }
     ensures row { DoesAlone St.step (fill_touched parts.old page (Err trap)) st.old (parts.new, result) st.new }
     ensures none_held { (St.view st.new).held ≡ None }
@@ -96,6 +98,7 @@ fn fill_from<St: Storage, D: Disk>(
     requires page { page < length parts.old.pages.infos }
     requires not_free { Contains parts.old.pages.free page → ⊥ }
     requires tag { IfSome (info_at parts.old.pages page).tag (λ tag. IsTag parts.old.cache tag) }
+    requires shown { page < parts.old.maps.pages }
     requires block { IfSome block (λ number. number < (D.view disk.old).count) }
     requires held { (St.view st.old).held ≡ Some page }
     requires touched { (St.view st.old).touched ≡ true }
@@ -121,6 +124,7 @@ pub fn fill<St: Storage, D: Disk>(parts: &mut Parts, st: &mut St, disk: &mut D, 
     requires pages { page < (St.view st.old).pages }
     requires not_free { Contains parts.old.pages.free page → ⊥ }
     requires tag { IfSome (info_at parts.old.pages page).tag (λ tag. IsTag parts.old.cache tag) }
+    requires shown { page < parts.old.maps.pages }
     requires block { IfSome (backing_at parts.old page) (λ block. block < (D.view disk.old).count) }
     requires none_held { (St.view st.old).held ≡ None }
     ensures row { Does St.step D.step (fill parts.old page) st.old disk.old (parts.new, result) st.new disk.new }

@@ -1,8 +1,11 @@
-//! Filling a guest's page with the bytes of its tag. Each call holds the page once.
+//! Filling a guest's page with the bytes of its tag, and giving a mapping's page the entry that shows it. Each call
+//! holds the page once.
 #![tactic(auto)]
 
+mod entry;
 mod filling;
 #[cfg(test)]
 mod tests;
 
+pub use entry::resolve;
 pub use filling::fill;

@@ -4,6 +4,7 @@ use cmm_io::MemDisk;
 use cmm_storage::{Noise, NoisyStorage};
 use cmm_types::{Cause, FilePlan, Items, Tag, Why};
 use guest_cache::Cache;
+use guest_maps::Maps;
 use guest_pages::Pages;
 use guest_rules::{Filled, Parts};
 use std::alloc::{AllocError, Global};
@@ -19,6 +20,7 @@ fn fill_file(
     let mut parts = Parts {
         pages: Pages::open(alloc, 1)?,
         cache: Cache::open(alloc, &[1], 0, 0)?,
+        maps: Maps::open(alloc, 1)?,
         faults: 0,
     };
     let tag = Tag::File { file: 0, index: 0 };

@@ -18,6 +18,7 @@ pub fn forget(parts: &mut Parts, page: u32)
     requires page { page < length parts.old.pages.infos }
     requires not_free { Contains parts.old.pages.free page → ⊥ }
     requires tag { IfSome (info_at parts.old.pages page).tag (λ tag. IsTag parts.old.cache tag) }
+    requires shown { page < parts.old.maps.pages }
     ensures { parts.new ≡ freed parts.old page }
 {
     if let Some(tag) = parts.pages.info(page).tag {
@@ -25,6 +26,7 @@ pub fn forget(parts: &mut Parts, page: u32)
     }
     parts.pages.clear(page);
     parts.pages.push(page);
+    parts.maps.clear_page(page);
 }
 
 /// The handler of a held page that was discarded: the page is free, and the host is told that it is unused. One
@@ -34,6 +36,7 @@ pub fn discard_handler<St: Storage>(parts: &mut Parts, st: &mut St, page: u32)
     requires page { page < length parts.old.pages.infos }
     requires not_free { Contains parts.old.pages.free page → ⊥ }
     requires tag { IfSome (info_at parts.old.pages page).tag (λ tag. IsTag parts.old.cache tag) }
+    requires shown { page < parts.old.maps.pages }
     requires held { (St.view st.old).held ≡ Some page }
     ensures row { DoesAlone St.step (handler parts.old page) st.old parts.new st.new }
     ensures held { (St.view st.new).held ≡ Some page }
@@ -85,6 +88,7 @@ pub fn make_stable<St: Storage>(parts: &mut Parts, st: &mut St, page: u32) -> Re
     requires page { page < length parts.old.pages.infos }
     requires not_free { Contains parts.old.pages.free page → ⊥ }
     requires tag { IfSome (info_at parts.old.pages page).tag (λ tag. IsTag parts.old.cache tag) }
+    requires shown { page < parts.old.maps.pages }
     requires held { (St.view st.old).held ≡ Some page }
     ensures row { DoesAlone St.step (make_stable parts.old page) st.old (parts.new, result) st.new }
     ensures held { (St.view st.new).held ≡ Some page }

@@ -25,7 +25,7 @@ fn missed_by(trap: Trap) -> Missed
 }
 
 /// Up to 64 bytes of the held page, which was touched.
-fn fetch<St: Storage>(st: &mut St, page: u32, off: u32, len: u32) -> Bytes64
+pub(crate) fn fetch<St: Storage>(st: &mut St, page: u32, off: u32, len: u32) -> Bytes64
     requires held { (St.view st.old).held ≡ Some page }
     requires touched { (St.view st.old).touched ≡ true }
     requires few { len ≤ MAX_BYTES }
@@ -53,6 +53,7 @@ pub fn read_page<St: Storage>(
     requires pages { page < (St.view st.old).pages }
     requires not_free { Contains parts.old.pages.free page → ⊥ }
     requires tag { IfSome (info_at parts.old.pages page).tag (λ tag. IsTag parts.old.cache tag) }
+    requires shown { page < parts.old.maps.pages }
     requires none_held { (St.view st.old).held ≡ None }
     requires few { len ≤ MAX_BYTES }
     requires within { off + len ≤ PAGE }

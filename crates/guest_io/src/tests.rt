@@ -6,6 +6,7 @@ use cmm_storage::{Noise, NoisyStorage, Storage};
 use cmm_types::{Bytes64, Cause, Why};
 use essa_state::Order;
 use guest_cache::Cache;
+use guest_maps::Maps;
 use guest_pages::Pages;
 use guest_rules::{Missed, Parts};
 use std::alloc::{AllocError, Global};
@@ -44,6 +45,7 @@ fn read(
     let mut parts = Parts {
         pages: Pages::open(alloc, 1)?,
         cache: Cache::open(alloc, &[], 0, 0)?,
+        maps: Maps::open(alloc, 1)?,
         faults: 0,
     };
     parts.pages.pop();

@@ -1,6 +1,6 @@
 -- Over a storage that never misses a processor that goes on alone comes to an end.
 use Rattle.std.specs.Prelude.{◌≡◌, ◌<◌, ◌≤◌, ℕ, zero, suc, ◌+◌, ◌++◌, [], ◌∷◌, length, true, Some, None, refl}
-use Rattle.std.proofs.Common.{arith, sym, ap, ◌∙◌}
+use Rattle.std.proofs.Common.{arith, sym, ap, subst, ◌∙◌}
 use Rattle.cmm_types.specs.declared.turn.Turn.{Turn}
 use Rattle.cmm_types.specs.declared.turn.Turn.TheVariants.{Moved, Finished, Waits, Again, Idle}
 use Rattle.cmm_types.specs.declared.turn.Alone.{Alone}
@@ -19,13 +19,14 @@ use Rattle.guest_rules.specs.GuestState.{GuestState, processor_at}
 use Rattle.guest_rules.specs.Turns.{turn}
 use Rattle.guest_rules.specs.Alone.{alone, alone_within, alone_after, most_turns}
 use Rattle.guest_rules.specs.Fit.{Fit}
-use Rattle.guest_rules.specs.Cause.{TurnCause, AloneCause, HasMoved, HasFinished, ReplyCause}
+use Rattle.guest_rules.specs.Cause.{TurnCause, AloneCause, HasMoved, HasFinished, HasShown, ReplyCause}
 use Rattle.guest_rules.proofs.TurnCases.{TurnCase}
 use Rattle.guest_rules.proofs.Inversion.{turn_case}
 use Rattle.guest_rules.proofs.Causes.{turn_causes}
-use Rattle.guest_rules.proofs.ReadPage.{risen_around}
-use Rattle.guest_rules.proofs.Ranks.{Rank, rank_some, rank-le, any_rank}
-use Rattle.guest_rules.proofs.Steps.{rank_step, never_again, plan_kept, waits_for_command}
+use Rattle.guest_rules.proofs.Taken.{risen_around}
+use Rattle.guest_rules.proofs.Ranks.{Rank, rank_some, any_rank}
+use Rattle.guest_rules.proofs.Steps.{rank_step, never_again}
+use Rattle.guest_rules.proofs.PlanKept.{plan_kept}
 
 -- a turn keeps what stands between turns
 abbrev pub KeepsFit : Type 0
@@ -72,6 +73,7 @@ finished_before g h i v m w d y e cpu on k = record {
       ∙ ap (λ q. g.journal ++ record { cpu = cpu; k = q; op = k.op; reply = k.reply } ∷ []) on.moved.place;
   next = k.next ∙ ap (λ q. record { place = q + 1; phase = Start }) on.moved.place;
   cause = cause_before g h v m w d y e cpu k.op k.reply on k.cause;
+  shown = subst (λ q. HasShown i (process_of q cpu) k.op k.reply w) on.plan k.shown;
 }
 
 -- why a processor stopped, seen from before a turn that moved
@@ -98,7 +100,7 @@ after_turn g h i v m w d y e cpu left turns Finished a f quiet faults disk_fault
 after_turn g h i v m w d y e cpu left turns (Waits page owner) a f quiet faults disk_faults case (eh, ev, ey, waits) rank few next (ea, em, ed) =
     let ei : i ≡ g = ap (λ q. q.0) ea ∙ eh in
     let er : a ≡ AloneWaits turns page owner = ap (λ q. q.1) ea in
-    let moved : HasMoved g cpu g = record { journal = refl; place = refl; command = waits_for_command g v m d y cpu page owner h case } in
+    let moved : HasMoved g cpu g = record { journal = refl; place = refl; command = waits.command } in
     rw er (rw ei moved, rw ei waits, omega (arith, few))
 after_turn g h i v m w d y e cpu left turns (Again why) a f quiet faults disk_faults case cause rank few next run = absurd (never_again g v m d y cpu h why quiet case)
 after_turn g h i v m w d y e cpu left turns Idle a f quiet faults disk_faults case (eh, ev, ey, none) rank few next (ea, em, ed) =
@@ -125,4 +127,4 @@ stops_within keep (suc left) turns g i v w d e cpu a f quiet below rank few run 
 pub alone_causes : KeepsFit → (g h : GuestState) (v w : StorageView) (d e : DiskView) (cpu : ℕ) (a : Alone) → v.quiet ≡ true → Fit g v d → cpu < length g.processors
     → Seen {A = GuestState × Alone} (alone g cpu) v d (h, a) w e → AloneCause g v d cpu a h w e
 alone_causes keep g h v w d e cpu a quiet f below run =
-    stops_within keep most_turns 0 g h v w d e cpu a f quiet below (rank-le g v cpu 5 most_turns (omega arith) (any_rank g v d cpu f)) (omega arith) run
+    stops_within keep most_turns 0 g h v w d e cpu a f quiet below (any_rank g v cpu most_turns (omega arith)) (omega arith) run

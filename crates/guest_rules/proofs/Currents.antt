@@ -1,57 +1,95 @@
--- While nothing is dirty, the current bytes of a tag are those of its block.
-use Rattle.std.proofs.Common.{◌≡◌, ◌<◌, ◌*◌, ℕ, Bool, true, false, List, map, length, Option, Some, None, refl, sym, ◌∙◌}
-use Rattle.cmm_types.specs.declared.page.TheConstants.{PAGE}
+-- The current bytes of a tag: what the host may do keeps them.
+use Rattle.std.proofs.Common.{◌≡◌, ◌≢◌, ◌<◌, ℕ, Bool, true, false, not, ◌&&◌, List, Option, Some, None, refl, ap, sym, ◌∙◌, inl, inr, nat_eq, if◌then◌else◌, is_none}
+use Rattle.cmm_types.specs.declared.page.Usage.TheVariants.{S, P, V}
 use Rattle.cmm_types.specs.declared.page.Tag.{Tag}
-use Rattle.cmm_types.specs.declared.page.Tag.TheVariants.{File}
-use Rattle.cmm_flat.specs.Bytes.{bytes_at}
-use Rattle.cmm_flat.specs.State.{FlatState, file_at}
 use Rattle.cmm_io.specs.DiskView.{DiskView}
-use Rattle.essa_state.specs.PageValue.{Contents, Bytes, Blank, Lost, is_lost, is_blank}
+use Rattle.essa_state.specs.PageValue.{PageValue, Contents, Bytes, Blank, Lost, MayBecome, may_lose, is_lost}
 use Rattle.cmm_storage.specs.StorageView.{StorageView}
+use Rattle.guest_pages.specs.declared.info.PageInfo.{PageInfo}
 use Rattle.guest_pages.specs.PagesView.{info_at}
-use Rattle.guest_cache.specs.CacheView.{IsTag, page_of}
+use Rattle.guest_cache.specs.CacheView.{CacheView, IsTag, page_of}
 use Rattle.guest_rules.specs.declared.parts.Parts.{Parts}
-use Rattle.guest_rules.specs.GuestState.{GuestState}
-use Rattle.guest_rules.specs.Fit.{PagesFit, MappingsFit, ContentsFit, FlatFit, backing, current_bytes, current_at, current}
+use Rattle.guest_rules.specs.Hint.{hint, can_be_fetched_again}
+use Rattle.guest_rules.specs.Fit.{PagesFit, backing, current_bytes, current_at, current}
+use Rattle.guest_rules.proofs.ValueLaws.{hint-tagged}
+use Rattle.guest_rules.proofs.PageFits.{PageFits, EachPageFits, backing-same}
 
-current_bytes-same : (uptodate : Bool) (contents : Contents) (behind : List ℕ) → (uptodate ≡ true → is_blank contents ≡ false)
-    → (uptodate ≡ true → is_lost contents ≡ false → contents ≡ Bytes behind) → current_bytes uptodate contents behind ≡ behind
-current_bytes-same false contents behind not_blank same = refl
-current_bytes-same true (Bytes bytes) behind not_blank same = let e = same refl refl in cc
-current_bytes-same true Blank behind not_blank same = let bad : true ≡ false = not_blank refl in absurd cc
-current_bytes-same true Lost behind not_blank same = refl
+clean_if : (u d n p w : Bool) → may_lose (if (u && (not d && (n && p))) then (if w then V else P) else S) false ≡ true → (u ≡ true) × (d ≡ false)
+clean_if true false n p w e = (refl, refl)
+clean_if true true n p w e = let bad : false ≡ true = e in absurd cc
+clean_if false d n p w e = let bad : false ≡ true = e in absurd cc
 
-current_at-same : (parts : Parts) (v : StorageView) (behind : List ℕ) (o : Option ℕ)
-    → ((page : ℕ) → o ≡ Some page → current_bytes (info_at parts.pages page).uptodate (v.values page).contents behind ≡ behind) → current_at parts v o behind ≡ behind
-current_at-same parts v behind None each = refl
-current_at-same parts v behind (Some page) each = each page refl
+never_lost : (u d n p w : Bool) → may_lose (if (u && (not d && (n && p))) then (if w then V else P) else S) true ≡ true → (if (u && (not d && (n && p))) then (if w then V else P) else S) ≡ V
+never_lost true false true true true e = refl
+never_lost true false true true false e = let bad : false ≡ true = e in absurd cc
+never_lost true false true false w e = let bad : false ≡ true = e in absurd cc
+never_lost true false false p w e = let bad : false ≡ true = e in absurd cc
+never_lost true true n p w e = let bad : false ≡ true = e in absurd cc
+never_lost false d n p w e = let bad : false ≡ true = e in absurd cc
 
-pub current-backing : (state : FlatState) (parts : Parts) (v : StorageView) (d : DiskView) (tag : Tag) → length parts.pages.infos ≡ v.pages → PagesFit parts → MappingsFit state parts v → ContentsFit parts v d
-    → IsTag parts.cache tag → current parts v d tag ≡ backing parts.cache d tag
-current-backing state parts v d tag size pages mappings contents is = current_at-same parts v (backing parts.cache d tag) (page_of parts.cache tag) at
+-- what may be lost is clean
+pub record CanBeLost (info : PageInfo) (value : PageValue) : Type 0 where
+  pub uptodate : info.uptodate ≡ true
+  pub clean : info.dirty ≡ false
+  pub unchanged : value.changed ≡ false
+
+unchanged_if : (b : Bool) → (b ≡ true → b ≡ false) → b ≡ false
+unchanged_if true f = f refl
+unchanged_if false f = refl
+
+pub can_be_lost : (cache : CacheView) (d : DiskView) (info : PageInfo) (x : PageValue) (tag : Tag) → PageFits cache d info x → info.tag ≡ Some tag → may_lose x.usage x.changed ≡ true → CanBeLost info x
+unfolding hint
+can_be_lost cache d info x tag s tagged lose =
+    record { uptodate = parts.0; clean = parts.1; unchanged = unchanged }
   where
-    at : (page : ℕ) → page_of parts.cache tag ≡ Some page → current_bytes (info_at parts.pages page).uptodate (v.values page).contents (backing parts.cache d tag) ≡ backing parts.cache d tag
-    at page e =
-        let here = pages.found page tag is e in
-        let below : page < v.pages = rw size at here.0 in
-        current_bytes-same (info_at parts.pages page).uptodate (v.values page).contents (backing parts.cache d tag) (λ u. contents.not_blank page tag below here.1 u)
-        (λ u there. contents.same page tag below here.1 u (mappings.clean page) (mappings.unchanged page below) there)
+    usage : x.usage ≡ (if can_be_fetched_again info then (if nat_eq info.writers 0 then V else P) else S)
+    usage = s.hinted ∙ (rw tagged refl)
 
--- the flat state's files are the blocks behind them
-pub record FlatBacked (flat : FlatState) (g : GuestState) (d : DiskView) : Type 0 where
-  pub lengths : map length flat.files ≡ map (λ file. PAGE * file.pages) g.plan.files
-  pub pages : (file index : ℕ) → IsTag g.parts.cache (File file index) → bytes_at (file_at flat.files file) (PAGE * index) PAGE ≡ backing g.parts.cache d (File file index)
+    unchanged : x.changed ≡ false
+    unchanged = unchanged_if x.changed (λ c. s.volatile (usage ∙ never_lost info.uptodate info.dirty (is_none info.owner) (nat_eq info.pins 0) (nat_eq info.writers 0) (ap (λ u. may_lose u true) (sym usage) ∙ ap (λ b. may_lose x.usage b) (sym c) ∙ lose)))
 
-pub FlatBacked-from : (flat : FlatState) (g : GuestState) (v : StorageView) (d : DiskView) → length g.parts.pages.infos ≡ v.pages → PagesFit g.parts → MappingsFit flat g.parts v → ContentsFit g.parts v d
-    → FlatFit flat g v d → FlatBacked flat g d
-FlatBacked-from flat g v d size pages mappings contents f = record {
-  lengths = f.lengths;
-  pages = λ file index is. f.pages file index is ∙ current-backing flat g.parts v d (File file index) size pages mappings contents is;
-}
+    parts : (info.uptodate ≡ true) × (info.dirty ≡ false)
+    parts = clean_if info.uptodate info.dirty (is_none info.owner) (nat_eq info.pins 0) (nat_eq info.writers 0) (ap (λ u. may_lose u false) (sym usage) ∙ ap (λ b. may_lose x.usage b) (sym unchanged) ∙ lose)
 
-pub FlatFit-from : (flat : FlatState) (g : GuestState) (v : StorageView) (d : DiskView) → length g.parts.pages.infos ≡ v.pages → PagesFit g.parts → MappingsFit flat g.parts v → ContentsFit g.parts v d
-    → FlatBacked flat g d → FlatFit flat g v d
-FlatFit-from flat g v d size pages mappings contents f = record {
-  lengths = f.lengths;
-  pages = λ file index is. f.pages file index is ∙ sym (current-backing flat g.parts v d (File file index) size pages mappings contents is);
-}
+-- the bytes that count, of a page with a tag, stay through what the host may do
+pub current_bytes-may : (cache : CacheView) (d : DiskView) (info : PageInfo) (x y : PageValue) (tag : Tag) → PageFits cache d info x → info.tag ≡ Some tag → MayBecome x y
+    → current_bytes info.uptodate y.contents (backing cache d tag) ≡ current_bytes info.uptodate x.contents (backing cache d tag)
+current_bytes-may cache d info x y tag s tagged (inl e) = ap (λ (z : PageValue). current_bytes info.uptodate z.contents (backing cache d tag)) e
+current_bytes-may cache d info x y tag s tagged (inr (inl lost)) =
+    let can = can_be_lost cache d info x tag s tagged lost.allowed in
+    ap (λ (z : PageValue). current_bytes info.uptodate z.contents (backing cache d tag)) lost.value
+    ∙ ap (λ u. current_bytes u Lost (backing cache d tag)) can.uptodate
+    ∙ sym (ap (λ u. current_bytes u x.contents (backing cache d tag)) can.uptodate ∙ ap (λ c. current_bytes true c (backing cache d tag)) (s.same tag tagged can.uptodate can.clean can.unchanged lost.there))
+current_bytes-may cache d info x y tag s tagged (inr (inr other)) = absurd (hint-tagged info tag tagged (sym s.hinted ∙ other.unused))
+
+-- of a page that isn't up to date what backs it counts, and of a lost one
+pub current_bytes-stale : (uptodate : Bool) (contents : Contents) (behind : List ℕ) → uptodate ≡ false → current_bytes uptodate contents behind ≡ behind
+current_bytes-stale uptodate contents behind e = ap (λ u. current_bytes u contents behind) e
+
+pub current_bytes-lost : (uptodate : Bool) (contents : Contents) (behind : List ℕ) → is_lost contents ≡ true → current_bytes uptodate contents behind ≡ behind
+current_bytes-lost false contents behind e = refl
+current_bytes-lost true (Bytes bytes) behind e = let bad : false ≡ true = e in absurd cc
+current_bytes-lost true Blank behind e = let bad : false ≡ true = e in absurd cc
+current_bytes-lost true Lost behind e = refl
+
+-- current bytes where each tag's page has the same ones
+pub record SameCurrent (old : Parts) (v : StorageView) (d : DiskView) (new : Parts) (w : StorageView) (e : DiskView) (page : ℕ) : Type 0 where
+  pub fits : EachPageFits old v d
+  pub pages : PagesFit old
+  pub files : new.cache.files ≡ old.cache.files
+  pub blocks : e.blocks ≡ d.blocks
+  pub infos : (i : ℕ) → i ≢ page → info_at new.pages i ≡ info_at old.pages i
+  pub values : (i : ℕ) → i ≢ page → MayBecome (v.values i) (w.values i)
+
+pub current-other : (old new : Parts) (v w : StorageView) (d e : DiskView) (page : ℕ) (tag : Tag) → SameCurrent old v d new w e page → IsTag old.cache tag → page_of old.cache tag ≢ Some page → page_of new.cache tag ≡ page_of old.cache tag
+    → current new w e tag ≡ current old v d tag
+current-other old new v w d e page tag k is other same = ap (λ o. current_at new w o (backing new.cache e tag)) same ∙ ap (current_at new w (page_of old.cache tag)) (backing-same old.cache new.cache d e tag k.files k.blocks) ∙ of (page_of old.cache tag) refl
+  where
+    of : (o : Option ℕ) → page_of old.cache tag ≡ o → current_at new w o (backing old.cache d tag) ≡ current_at old v o (backing old.cache d tag)
+    of None z = refl
+    of (Some i) z =
+        let n : i ≢ page = λ q. other (z ∙ ap (λ x. Some x) q) in
+        let here = k.pages.found i tag is z in
+        let below : i < v.pages = rw k.fits.size at here.0 in
+        ap (λ (info : PageInfo). current_bytes info.uptodate (w.values i).contents (backing old.cache d tag)) (k.infos i n)
+        ∙ current_bytes-may old.cache d (info_at old.pages i) (v.values i) (w.values i) tag (k.fits.each i below) here.1 (k.values i n)

@@ -6,9 +6,10 @@ use Rattle.cmm_types.specs.declared.turn.Turn.{Turn}
 use Rattle.cmm_io.specs.DiskView.{DiskView}
 use Rattle.essa_state.specs.PageValue.{PageValue, Contents, IsMadeUnused, MayBecome, is_lost, may_lose, stable_contents}
 use Rattle.cmm_storage.specs.StorageView.{StorageView}
+use Rattle.guest_rules.specs.declared.parts.Parts.{Parts}
 use Rattle.guest_rules.specs.GuestState.{GuestState}
 use Rattle.guest_rules.specs.Cause.{NoWrongDiscard}
-use Rattle.guest_rules.proofs.TurnCases.{TurnCase, was_idle, was_refused, waited, missed, was_begun, was_gone, was_read, read_failed, fill_failed, was_filled, GivenBack, AllMay}
+use Rattle.guest_rules.proofs.TurnCases.{TurnCase, was_idle, was_refused, was_mapped, waited, missed, missed_rehinted, was_begun, was_gone, was_read, read_failed, was_resolved, was_loaded, was_stored, entry_failed, fill_failed, was_filled, GivenBack, AllMay, IsRehinted}
 use Rattle.guest_rules.proofs.Values.{unused_there}
 
 -- the host discards only what it may
@@ -34,16 +35,25 @@ stable_kept contents = grind arith
 unused_kept : (old new : PageValue) → IsMadeUnused old new → is_lost new.contents ≡ false
 unused_kept old new unused = unused_there new.contents unused.stands
 
+told_kept : (parts : Parts) (page : ℕ) (found : PageValue) (after : Parts) (left : PageValue) → IsRehinted parts page found after left → is_lost left.contents ≡ false
+told_kept parts page found after left told = ap (λ q. is_lost q.contents) told.value ∙ told.there
+
 -- no turn discards a page that may not be discarded
 pub turn_discards : (g : GuestState) (v w : StorageView) (d e : DiskView) (cpu : ℕ) (h : GuestState) (t : Turn) → TurnCase g cpu v d h t w e → NoWrongDiscard v w
 turn_discards g v w d e cpu h t (was_idle none eh et ew ee) = unchanged v w ew
-turn_discards g v w d e cpu h t (was_refused file off len refusal reads start refused eh et ew ee) = unchanged v w ew
-turn_discards g v w d e cpu h t (waited file off len page owner starts locked eh et ew ee) = unchanged v w ew
-turn_discards g v w d e cpu h t (missed why eh et may misses ee) = all_pages v w d e may
-turn_discards g v w d e cpu h t (was_begun file off len page rest found starts none free eh et back may value) =
+turn_discards g v w d e cpu h t (was_refused op refusal has start refused eh et ew ee) = unchanged v w ew
+turn_discards g v w d e cpu h t (was_mapped number file first count writable slot starts free eh et ew ee) = unchanged v w ew
+turn_discards g v w d e cpu h t (waited op page owner starts locked eh et ew ee) = unchanged v w ew
+turn_discards g v w d e cpu h t (missed op why has eh et may misses ee) = all_pages v w d e may
+turn_discards g v w d e cpu h t (missed_rehinted why op tag page found after starts wants has eh et back may told misses ee) = but_one page v w d e back (told_kept _ _ _ _ _ told)
+turn_discards g v w d e cpu h t (was_begun op tag page rest found starts wants none free eh et back may value) =
     but_one page v w d e back (ap (λ q. is_lost q.contents) value ∙ stable_kept found.contents)
-turn_discards g v w d e cpu h t (was_gone file off len page found starts has eh et back may lost unused quiet) = but_one page v w d e back (unused_kept _ _ unused)
-turn_discards g v w d e cpu h t (was_read file off len page all starts has are eh et may) = all_pages v w d e may
-turn_discards g v w d e cpu h t (read_failed file off len starts eh et may risen) = all_pages v w d e may
-turn_discards g v w d e cpu h t (fill_failed file off len page cause reads phase eh et back unused why) = but_one page v w d e back (unused_kept _ _ unused)
-turn_discards g v w d e cpu h t (was_filled file off len page tag reads phase tagged eh et back value) = but_one page v w d e back (ap (λ q. is_lost q.contents) value)
+turn_discards g v w d e cpu h t (was_gone op tag page found starts wants has eh et back may lost unused quiet) = but_one page v w d e back (unused_kept _ _ unused)
+turn_discards g v w d e cpu h t (was_read file off len page found all after starts has back may are told eh et) = but_one page v w d e back (told_kept _ _ _ _ _ told)
+turn_discards g v w d e cpu h t (read_failed file off len page found after starts has back may told eh et risen) = but_one page v w d e back (told_kept _ _ _ _ _ told)
+turn_discards g v w d e cpu h t (was_resolved op tag writes slot off page found after starts wants maps has can back may told eh et) = but_one page v w d e back (told_kept _ _ _ _ _ told)
+turn_discards g v w d e cpu h t (was_loaded number off len slot page writable all starts at_slot at are eh et may) = all_pages v w d e may
+turn_discards g v w d e cpu h t (was_stored number off bytes slot page found all starts at_slot at back may are value eh et) = but_one page v w d e back (ap (λ q. is_lost q.contents) value)
+turn_discards g v w d e cpu h t (entry_failed op writes slot off starts maps eh et may risen) = all_pages v w d e may
+turn_discards g v w d e cpu h t (fill_failed op page cause has phase eh et back unused why) = but_one page v w d e back (unused_kept _ _ unused)
+turn_discards g v w d e cpu h t (was_filled op page tag has phase tagged eh et back value) = but_one page v w d e back (ap (λ q. is_lost q.contents) value)

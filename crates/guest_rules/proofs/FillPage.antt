@@ -3,6 +3,7 @@ use Rattle.std.specs.Prelude.{◌≡◌, ℕ, List, Bool, true, false, Option, S
 use Rattle.std.proofs.Common.{sym, ap, inl, ◌∙◌}
 use Rattle.std.proofs.lemmas.List.{length-replicate}
 use Rattle.cmm_types.specs.declared.page.TheConstants.{PAGE}
+use Rattle.cmm_types.specs.declared.page.Usage.{Usage}
 use Rattle.cmm_types.specs.declared.page.Usage.TheVariants.{S, V}
 use Rattle.cmm_types.specs.declared.command.Cause.{Cause}
 use Rattle.cmm_types.specs.declared.command.Cause.TheVariants.{Disk, Paging as PagingCause}
@@ -22,20 +23,20 @@ use Rattle.guest_rules.specs.declared.parts.Parts.{Parts}
 use Rattle.guest_rules.specs.declared.outcome.Filled.{Filled}
 use Rattle.guest_rules.specs.declared.outcome.Filled.TheVariants.{Done, Again, Fail}
 use Rattle.guest_rules.specs.Hint.{hint}
-use Rattle.guest_rules.specs.Rows.{filled, freed, fill, fill_with, fill_read, fill_from, fill_touched, give_up, backing_at}
+use Rattle.guest_rules.specs.Rows.{filled, freed, with_change, fill, fill_with, fill_read, fill_from, fill_touched, give_up, backing_at}
 use Rattle.guest_rules.specs.Fit.{backed}
 use Rattle.guest_rules.proofs.TurnCases.{GivenBack, AllMay, FillCause}
 use Rattle.guest_rules.proofs.Values.{may_stable, stable_there, made_stable-same, whole_write}
-use Rattle.guest_rules.proofs.Held.{seen_settle}
-use Rattle.guest_rules.proofs.ReadPage.{all_may, misses_around, risen_around}
+use Rattle.guest_rules.proofs.Held.{IsUsed, seen_settle}
+use Rattle.guest_rules.proofs.Taken.{all_may, misses_around, risen_around}
 
 -- a page that can be filled: it is stable, and volatile once it is filled
 pub record CanBeFilled (parts : Parts) (page : ℕ) (v : StorageView) (d : DiskView) : Type 0 where
   pub tells : v.tells ≡ true
   pub told : (blocks : List (List ℕ)) × (d.blocks ≡ Some blocks)
   pub usage : (v.values page).usage ≡ S
-  pub unchanged : (v.values page).changed ≡ false
   pub value : IsValue (v.values page)
+  pub used : IsUsed (filled parts page) page
   pub hinted : hint (info_at (filled parts page).pages page) ≡ V
 
 abbrev pub filled_value : Parts → ℕ → DiskView → PageValue → PageValue
@@ -52,6 +53,12 @@ record IsFillable (parts : Parts) (page : ℕ) (v : StorageView) (d : DiskView) 
   keeps : Keeps v page n
   there : is_lost (v.values page).contents ≡ false
   value : n.values page ≡ v.values page
+
+-- the stable page was touched
+record IsTouched (page : ℕ) (v m : StorageView) : Type 0 where
+  whole : IsWhole (m.values page).contents
+  usage : (m.values page).usage ≡ S
+  count : (m.values page).count ≡ (v.values page).count
 
 -- the disk has the blocks that it had
 record SameBlocks (d x : DiskView) : Type 0 where
@@ -79,26 +86,28 @@ stored : (tells : Bool) (value : PageValue) (all bytes : List ℕ) → tells ≡
 stored tells value all bytes is_told are same = rw (is_told, are) (ap Bytes (whole_write all bytes same))
 
 filled_with : (parts : Parts) (page : ℕ) (bytes : List ℕ) (v n m : StorageView) (d x : DiskView) (a : Parts) (r : Filled) (w : StorageView) (e : DiskView)
-    → IsFillable parts page v d n → Keeps n page m → IsWhole (m.values page).contents → (m.values page).count ≡ (v.values page).count
+    → IsFillable parts page v d n → Keeps n page m → IsTouched page v m
     → SameBlocks d x → length bytes ≡ PAGE → bytes ≡ backed d.blocks (backing_at parts page)
     → Seen (fill_with parts page bytes) m x (a, r) w e → FillOutcome parts page v d a r w e
-filled_with parts page bytes v n m d x a r w e f keeps whole count blocks size are (o, (keeps', nothing, still, holds, value), (changed, q, (keeps'', nothing', still', holds', was, value'), run)) =
+filled_with parts page bytes v n m d x a r w e f keeps is blocks size are (o, (keeps', nothing, still, holds, value), (changed, q, (keeps'', nothing', still', holds', was, value'), run)) =
     let tells : m.tells ≡ true = keeps.tells ∙ f.keeps.tells ∙ f.can.tells in
-    let contents : (o.values page).contents ≡ Bytes bytes = ap (λ y. y.contents) value ∙ stored m.tells (m.values page) whole.all bytes tells whole.are (whole.size ∙ sym size) in
+    let contents : (o.values page).contents ≡ Bytes bytes = ap (λ y. y.contents) value ∙ stored m.tells (m.values page) is.whole.all bytes tells is.whole.are (is.whole.size ∙ sym size) in
     let contents' : (q.values page).contents ≡ Bytes bytes = ap (λ y. y.contents) value' ∙ contents in
-    let count' : (q.values page).count ≡ (v.values page).count = ap (λ y. y.count) value' ∙ ap (λ y. y.count) value ∙ count in
-    let s = seen_settle (filled parts page) Done page q x (a, r) w e f.can.hinted (ap (λ y. y.changed) value') (ap is_blank contents') run in
+    let count' : (q.values page).count ≡ (v.values page).count = ap (λ y. y.count) value' ∙ ap (λ y. y.count) value ∙ is.count in
+    let usage : (q.values page).usage ≡ S = ap (λ y. y.usage) value' ∙ ap (λ y. y.usage) value ∙ is.usage in
+    let s = seen_settle (filled parts page) Done page q x (a, r) w e f.can.used usage (ap is_blank contents') run in
+    let tables : a ≡ filled parts page = s.tables ∙ ap (λ y. with_change (filled parts page) page y) (ap (λ y. y.changed) value') in
+    let hinted : hint (info_at a.pages page) ≡ V = ap (λ y. hint (info_at y.pages page)) tables ∙ f.can.hinted in
     let all = Keeps-trans v n w page f.keeps (Keeps-trans n m w page keeps (Keeps-trans m o w page keeps' (Keeps-trans o q w page keeps'' s.keeps))) in
-    let er : r ≡ Done = ap (λ y. y.1) s.answer in
-    rw er (
-      ap (λ y. y.0) s.answer,
+    rw s.answer (
+      tables,
       record { keeps = all; held = s.held; count = ap (λ y. y.count) s.disk ∙ blocks.count; blocks = ap (λ y. y.blocks) s.disk ∙ blocks.blocks },
-      s.value ∙ of_fields (q.values page) (v.values page) bytes (backed d.blocks (backing_at parts page)) (ap (λ y. y.changed) value') (contents' ∙ ap Bytes are) count',
+      s.value ∙ of_fields (hint (info_at a.pages page)) (q.values page) (v.values page) (backed d.blocks (backing_at parts page)) hinted (contents' ∙ ap Bytes are) count',
     )
   where
-    of_fields : (y old : PageValue) (bytes those : List ℕ) → y.changed ≡ false → y.contents ≡ Bytes those → y.count ≡ old.count
-        → record y { usage = V } ≡ record { usage = V; changed = false; contents = Bytes those; count = old.count }
-    of_fields y old bytes those c b n = rw (c, b, n) refl
+    of_fields : (usage : Usage) (y old : PageValue) (those : List ℕ) → usage ≡ V → y.contents ≡ Bytes those → y.count ≡ old.count
+        → record y { usage = usage; changed = false } ≡ record { usage = V; changed = false; contents = Bytes those; count = old.count }
+    of_fields usage y old those u b n = rw (u, b, n) refl
 
 zeros_size : length zeros ≡ PAGE
 unfolding zeros
@@ -106,28 +115,32 @@ zeros_size = length-replicate {A = ℕ} PAGE 0
 
 -- what a read of a block gave
 filled_read : (parts : Parts) (page block : ℕ) (v n m : StorageView) (d x : DiskView) (a : Parts) (r : Filled) (w : StorageView) (e : DiskView) (was : Result Unit Failed) (bytes : List ℕ)
-    → IsFillable parts page v d n → Keeps n page m → IsWhole (m.values page).contents → (m.values page).count ≡ (v.values page).count
+    → IsFillable parts page v d n → Keeps n page m → IsTouched page v m
     → backing_at parts page ≡ Some block → DiskFollows d (Read block was bytes) x
     → Seen (fill_read parts page (block_read was bytes)) m x (a, r) w e → FillOutcome parts page v d a r w e
-filled_read parts page block v n m d x a r w e (Ok u) bytes f keeps whole same at_block (disk, size, holds, blocks) run =
+filled_read parts page block v n m d x a r w e (Ok u) bytes f keeps is at_block (disk, size, holds, blocks) run =
     let are : bytes ≡ backed d.blocks (backing_at parts page) = rw (at_block, f.can.told.1) (rw f.can.told.1 at holds) in
-    filled_with parts page bytes v n m d x a r w e f keeps whole same (record { count = disk.count; blocks = blocks }) size are run
-filled_read parts page block v n m d x a r w e (Err failed) bytes f keeps whole same at_block (disk, size, was) run =
-    given_up parts page Disk v m d x a r w e (Keeps-trans v n m page f.keeps keeps) same (record { count = disk.count; blocks = was.blocks }) (λ w k. was.risen) run
+    filled_with parts page bytes v n m d x a r w e f keeps is (record { count = disk.count; blocks = blocks }) size are run
+filled_read parts page block v n m d x a r w e (Err failed) bytes f keeps is at_block (disk, size, was) run =
+    given_up parts page Disk v m d x a r w e (Keeps-trans v n m page f.keeps keeps) is.count (record { count = disk.count; blocks = was.blocks }) (λ w k. was.risen) run
 
 filled_from : (parts : Parts) (page : ℕ) (block : Option ℕ) (v n m : StorageView) (d : DiskView) (a : Parts) (r : Filled) (w : StorageView) (e : DiskView)
-    → IsFillable parts page v d n → Keeps n page m → IsWhole (m.values page).contents → (m.values page).count ≡ (v.values page).count
+    → IsFillable parts page v d n → Keeps n page m → IsTouched page v m
     → backing_at parts page ≡ block → Seen (fill_from parts page block) m d (a, r) w e → FillOutcome parts page v d a r w e
-filled_from parts page (Some block) v n m d a r w e f keeps whole same at_block (was, bytes, x, follows, run) =
-    filled_read parts page block v n m d x a r w e was bytes f keeps whole same at_block follows run
-filled_from parts page None v n m d a r w e f keeps whole same at_block run =
-    filled_with parts page zeros v n m d d a r w e f keeps whole same (record { count = refl; blocks = refl }) zeros_size (rw at_block refl) run
+filled_from parts page (Some block) v n m d a r w e f keeps is at_block (was, bytes, x, follows, run) =
+    filled_read parts page block v n m d x a r w e was bytes f keeps is at_block follows run
+filled_from parts page None v n m d a r w e f keeps is at_block run =
+    filled_with parts page zeros v n m d d a r w e f keeps is (record { count = refl; blocks = refl }) zeros_size (rw at_block refl) run
 
 filled_touched : (parts : Parts) (page : ℕ) (v n m : StorageView) (d : DiskView) (a : Parts) (r : Filled) (w : StorageView) (e : DiskView) (trap : Result Unit Trap)
     → IsFillable parts page v d n → Follows n (Touch page trap) m → Seen (fill_touched parts page trap) m d (a, r) w e → FillOutcome parts page v d a r w e
 filled_touched parts page v n m d a r w e (Ok u) f (keeps, nothing, holds, there, value, whole) run =
-    let count : (m.values page).count ≡ (v.values page).count = ap (λ q. q.count) value ∙ ap (λ q. q.count) f.value in
-    filled_from parts page (backing_at parts page) v n m d a r w e f keeps (whole (f.keeps.tells ∙ f.can.tells)) count refl run
+    let is : IsTouched page v m = record {
+      whole = whole (f.keeps.tells ∙ f.can.tells);
+      usage = ap (λ q. q.usage) value ∙ ap (λ q. q.usage) f.value ∙ f.can.usage;
+      count = ap (λ q. q.count) value ∙ ap (λ q. q.count) f.value;
+    } in
+    filled_from parts page (backing_at parts page) v n m d a r w e f keeps is refl run
 filled_touched parts page v n m d a r w e (Err Discarded) f (keeps, nothing, still, same, lost) run =
     let bad : true ≡ false = sym lost ∙ ap (λ q. is_lost q.contents) f.value ∙ f.there in absurd cc
 filled_touched parts page v n m d a r w e (Err Paging) f (keeps, nothing, same, there, fresh, risen) run =

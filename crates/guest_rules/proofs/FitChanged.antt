@@ -2,7 +2,6 @@
 use Rattle.std.proofs.Common.{◌≡◌, ◌≢◌, ◌<◌, ◌≤◌, ◌+◌, ℕ, length, refl, ap, sym, ◌∙◌, inl, inr, arith}
 use Rattle.std.proofs.lemmas.Bool.{cases_eq}
 use Rattle.cmm_io.specs.DiskView.{DiskView}
-use Rattle.cmm_types.specs.declared.page.Tag.TheVariants.{File}
 use Rattle.cmm_flat.specs.State.{FlatState}
 use Rattle.essa_state.specs.PageValue.{MayBecome}
 use Rattle.cmm_storage.specs.StorageView.{StorageView}
@@ -11,16 +10,14 @@ use Rattle.guest_pages.specs.PagesView.{info_at}
 use Rattle.guest_rules.specs.declared.processor.Phase.{Phase}
 use Rattle.guest_rules.specs.declared.processor.Processor.{Processor}
 use Rattle.guest_rules.specs.GuestState.{GuestState, processor_at}
-use Rattle.guest_rules.specs.Fit.{SizesFit, PagesFit, MappingsFit, ContentsFit, LocksFit, JournalFit, FaultsFit, FitAt, one_if_lost}
+use Rattle.guest_rules.specs.Fit.{PagesFit, SlotsFit, EntriesFit, FlatFit, LocksFit, JournalFit, FaultsFit, FitAt, one_if_lost}
 use Rattle.guest_rules.proofs.TurnCases.{GivenBack}
 use Rattle.guest_rules.proofs.ValueLaws.{may-faults}
 use Rattle.guest_rules.proofs.Faults.{over_pages-more}
-use Rattle.guest_rules.proofs.Changes.{InfoChange, PhaseChange, IsTag-same}
-use Rattle.guest_rules.proofs.PageFits.{PageFits, EachPageFits, PageFits-may, PageFits-same, EachPageFits-from, MappingsFit-from, HintsFit-from, ContentsFit-from, backing-same}
-use Rattle.guest_rules.proofs.Currents.{FlatBacked, FlatBacked-from, FlatFit-from}
-
-pub infos-pages : (g : GuestState) (v : StorageView) (d : DiskView) → SizesFit g v d → length g.parts.pages.infos ≡ v.pages
-infos-pages g v d f = f.infos ∙ sym f.pages
+use Rattle.guest_rules.proofs.Changes.{InfoChange, PhaseChange}
+use Rattle.guest_rules.proofs.PageFits.{PageFits, EachPageFits, PageFits-may, PageFits-same, EachPageFits-from, PinsFit-from, HintsFit-from, ContentsFit-from}
+use Rattle.guest_rules.proofs.Currents.{SameCurrent}
+use Rattle.guest_rules.proofs.FitMay.{infos-pages}
 
 JournalFit-phase : (g h : GuestState) (cpu : ℕ) (phase : Phase) → JournalFit g → h.plan ≡ g.plan → h.journal ≡ g.journal → PhaseChange g.processors h.processors cpu phase → JournalFit h
 JournalFit-phase g h cpu phase f plan journal change = record {
@@ -35,14 +32,6 @@ JournalFit-phase g h cpu phase f plan journal change = record {
       | inl z ↦ rw (z, change.here) refl
       | inr n ↦ ap (λ (p : Processor). p.place) (change.others q n)
     ]
-
-pub FlatBacked-same : (state : FlatState) (g h : GuestState) (d e : DiskView) → h.plan ≡ g.plan → h.parts.cache.files ≡ g.parts.cache.files → h.parts.cache.slots ≡ g.parts.cache.slots → e.blocks ≡ d.blocks → FlatBacked state g d → FlatBacked state h e
-FlatBacked-same state g h d e plan files slots blocks f = record {
-  lengths = rw plan f.lengths;
-  pages = λ file index is.
-      f.pages file index (IsTag-same h.parts.cache g.parts.cache (File file index) (sym files) (sym slots) is)
-      ∙ sym (backing-same g.parts.cache h.parts.cache d e (File file index) files blocks);
-}
 
 -- what one step of the tables leaves and changes: one page's info and value, one processor's phase
 pub record TableStep (g : GuestState) (v : StorageView) (d : DiskView) (h : GuestState) (w : StorageView) (e : DiskView) (cpu page : ℕ) (phase : Phase) (info : PageInfo) : Type 0 where
@@ -67,9 +56,21 @@ FaultsFit-step g h v w more page f pages below others step =
     let sums = over_pages-more (λ i. (v.values i).count) (λ i. one_if_lost (w.values i)) (λ i. (w.values i).count) (λ i. one_if_lost (v.values i)) more page v.pages below (λ i _ n. may-faults (v.values i) (w.values i) (others i n)) step.counted in
     rw pages (omega (arith, sums, step.handled, f))
 
-pub FitAt-step : (state : FlatState) (g : GuestState) (v : StorageView) (d : DiskView) (h : GuestState) (w : StorageView) (e : DiskView) (cpu page more : ℕ) (phase : Phase) (info : PageInfo) → FitAt state g v d
-    → TableStep g v d h w e cpu page phase info → PagesFit h.parts → LocksFit h → FaultStep more g v h w page → FitAt state h w e
-FitAt-step state g v d h w e cpu page more phase info f step pages locks faults = record {
+-- what fit of the guest before gives of its pages, and what the step keeps of their bytes
+pub step-same : (state : FlatState) (g : GuestState) (v : StorageView) (d : DiskView) (h : GuestState) (w : StorageView) (e : DiskView) (cpu page : ℕ) (phase : Phase) (info : PageInfo) → FitAt state g v d
+    → TableStep g v d h w e cpu page phase info → SameCurrent g.parts v d h.parts w e page
+step-same state g v d h w e cpu page phase info f step = record {
+  fits = EachPageFits-from g.parts v d (infos-pages g v d f.sizes) f.pins f.hints f.contents;
+  pages = f.pages;
+  files = step.files;
+  blocks = step.back.blocks;
+  infos = step.info_change.others;
+  values = step.back.keeps.others;
+}
+
+pub FitAt-step : (state later : FlatState) (g : GuestState) (v : StorageView) (d : DiskView) (h : GuestState) (w : StorageView) (e : DiskView) (cpu page more : ℕ) (phase : Phase) (info : PageInfo) → FitAt state g v d
+    → TableStep g v d h w e cpu page phase info → PagesFit h.parts → SlotsFit later h.parts → EntriesFit h.parts → LocksFit h → FlatFit later h w e → FaultStep more g v h w page → FitAt later h w e
+FitAt-step state later g v d h w e cpu page more phase info f step pages slots entries locks flat faults = record {
   sizes = record {
     range = rw step.plan f.sizes.range;
     built = rw step.plan f.sizes.built;
@@ -82,11 +83,13 @@ FitAt-step state g v d h w e cpu page more phase info f step pages locks faults 
     blocks = rw (step.plan, step.back.count) f.sizes.blocks;
   };
   pages = pages;
-  mappings = mappings;
+  slots = slots;
+  entries = entries;
+  pins = PinsFit-from h.parts w e fits;
   locks = locks;
   hints = HintsFit-from h.parts w e step.back.held fits;
-  contents = contents;
-  flat = FlatFit-from state h w e fits.size pages mappings contents (FlatBacked-same state g h d e step.plan step.files step.slots step.back.blocks (FlatBacked-from state g v d size f.pages f.mappings f.contents f.flat));
+  contents = ContentsFit-from h.parts w e (step.back.keeps.tells ∙ f.contents.tells) f.contents.told.0 (step.back.blocks ∙ f.contents.told.1) (rw (step.back.count, step.back.blocks) f.contents.blocks) fits;
+  flat = flat;
   journal = JournalFit-phase g h cpu phase f.journal step.plan step.journal step.phase_change;
   faults = FaultsFit-step g h v w more page f.faults step.back.keeps.pages step.below step.back.keeps.others faults;
 }
@@ -95,7 +98,7 @@ FitAt-step state g v d h w e cpu page more phase info f step pages locks faults 
     size = infos-pages g v d f.sizes
 
     before : EachPageFits g.parts v d
-    before = EachPageFits-from state g.parts v d size f.mappings f.hints f.contents
+    before = EachPageFits-from g.parts v d size f.pins f.hints f.contents
 
     fits : EachPageFits h.parts w e
     fits = record {
@@ -107,9 +110,3 @@ FitAt-step state g v d h w e cpu page more phase info f step pages locks faults 
             (PageFits-may g.parts.cache d (info_at g.parts.pages i) (v.values i) (w.values i) (before.each i (rw step.back.keeps.pages at lt)) (step.back.keeps.others i n)))
       ];
     }
-
-    mappings : MappingsFit state h.parts w
-    mappings = MappingsFit-from state h.parts w e f.mappings.none_live fits
-
-    contents : ContentsFit h.parts w e
-    contents = ContentsFit-from h.parts w e (step.back.keeps.tells ∙ f.contents.tells) f.contents.told.0 (step.back.blocks ∙ f.contents.told.1) (rw (step.back.count, step.back.blocks) f.contents.blocks) fits

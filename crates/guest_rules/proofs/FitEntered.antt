@@ -33,6 +33,7 @@ next_one g cpu = record { place = (processor_at g cpu).place + 1; phase = Start 
 LocksFit-entered : (g h : GuestState) (cpu : ℕ) → LocksFit g → h.plan ≡ g.plan → h.parts ≡ g.parts → length h.processors ≡ length g.processors → (processor_at g cpu).phase ≡ Start → (processor_at h cpu).phase ≡ Start
     → ((q : ℕ) → q ≢ cpu → processor_at h q ≡ processor_at g q) → LocksFit h
 LocksFit-entered g h cpu f plan parts size start now others = record {
+  stale_clean = λ i u. rw parts (f.stale_clean i (rw parts at u));
   filling = λ q i e.
       let n : q ≢ cpu = λ z. let bad : Start ≡ Fill i = sym now ∙ ap (λ x. (processor_at h x).phase) (sym z) ∙ e in cc in
       let was = f.filling q i (ap (λ (p : Processor). p.phase) (sym (others q n)) ∙ e) in
@@ -91,7 +92,9 @@ Fit-entered g v d cpu op reply f below start command reply_is =
         blocks = f.sizes.blocks;
       };
       pages = f.pages;
-      mappings = f.mappings;
+      slots = f.slots;
+      entries = f.entries;
+      pins = f.pins;
       locks = LocksFit-entered g (entered g cpu op reply) cpu f.locks refl refl (length-set g.processors cpu (next_one g cpu)) start
           (ap (λ (p : Processor). p.phase) (get_or-set_same g.processors cpu (next_one g cpu) at_start below)) (λ q n. get_or-set_other g.processors cpu q (next_one g cpu) at_start n);
       hints = f.hints;

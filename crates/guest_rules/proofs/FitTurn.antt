@@ -1,11 +1,13 @@
 -- Every turn keeps fit.
-use Rattle.std.proofs.Common.{◌≡◌, ◌<◌, ℕ, length, refl, ap, subst, length-set, get_or-set_same, set-set}
+use Rattle.std.proofs.Common.{◌≡◌, ◌<◌, ◌/◌, ℕ, Bool, Some, length, refl, ap, sym, ◌∙◌, subst, length-set, get_or-set_same, set-set}
 use Rattle.cmm_types.specs.declared.command.Op.{Op}
-use Rattle.cmm_types.specs.declared.command.Op.TheVariants.{Read}
+use Rattle.cmm_types.specs.declared.command.Op.TheVariants.{Read, Load, Store}
 use Rattle.cmm_types.specs.declared.command.Reply.{Reply}
 use Rattle.cmm_types.specs.declared.command.Reply.TheVariants.{Fail}
 use Rattle.cmm_types.specs.declared.command.Cause.{Cause}
 use Rattle.cmm_types.specs.declared.command.Cause.TheVariants.{Paging}
+use Rattle.cmm_types.specs.declared.page.TheConstants.{PAGE}
+use Rattle.cmm_types.specs.declared.page.Tag.TheVariants.{File}
 use Rattle.cmm_types.specs.declared.turn.Turn.{Turn}
 use Rattle.cmm_io.specs.DiskView.{DiskView}
 use Rattle.cmm_flat.specs.Legal.{flat_of}
@@ -16,50 +18,76 @@ use Rattle.guest_rules.specs.declared.processor.Processor.{Processor}
 use Rattle.guest_rules.specs.GuestState.{GuestState, at_start, processor_at, with_parts, with_phase, entered}
 use Rattle.guest_rules.specs.Rows.{freed}
 use Rattle.guest_rules.specs.Turns.{begun}
-use Rattle.guest_rules.specs.Fit.{Fit}
-use Rattle.guest_rules.proofs.TurnCases.{GivenBack, Reads, FillCause, TurnCase, was_idle, was_refused, waited, missed, was_begun, was_gone, was_read, read_failed, fill_failed, was_filled}
-use Rattle.guest_rules.proofs.Processors.{processor-with_phase}
+use Rattle.guest_rules.specs.Fit.{Fit, NeedsPage}
+use Rattle.guest_rules.proofs.TurnCases.{GivenBack, Has, Maps, FillCause, TurnCase, was_idle, was_refused, was_mapped, waited, missed, missed_rehinted, was_begun, was_gone, was_read, read_failed, was_resolved, was_loaded, was_stored, entry_failed, fill_failed, was_filled}
 use Rattle.guest_rules.proofs.FitMay.{FitAt-may}
+use Rattle.guest_rules.proofs.StepBegun.{Fit-begun}
+use Rattle.guest_rules.proofs.StepFreed.{Fit-gone, Fit-given_up}
+use Rattle.guest_rules.proofs.StepFilled.{Fit-filled}
+use Rattle.guest_rules.proofs.StepTold.{Fit-rehinted}
+use Rattle.guest_rules.proofs.StepResolved.{Fit-resolved}
 use Rattle.guest_rules.proofs.Replies.{Fit-refused, Fit-read, Fit-failed}
-use Rattle.guest_rules.proofs.TableSteps.{Fit-begun, Fit-gone, Fit-given_up, Fit-filled}
+use Rattle.guest_rules.proofs.ReplyMapped.{Fit-mapped}
+use Rattle.guest_rules.proofs.ReplyLoaded.{Fit-loaded}
+use Rattle.guest_rules.proofs.ReplyStored.{Fit-stored}
 
 -- an entry leaves its processor in phase Start, whatever it did before
 entered-start : (g : GuestState) (cpu : ℕ) (op : Op) (reply : Reply) → cpu < length g.processors → entered (with_phase g cpu Start) cpu op reply ≡ entered g cpu op reply
 unfolding entered with_phase
 entered-start g cpu op reply below = rw (get_or-set_same g.processors cpu (record { place = (processor_at g cpu).place; phase = Start }) at_start below, set-set) refl
 
-start-reads : (g : GuestState) (cpu file off len : ℕ) → Reads g cpu file off len → Reads (with_phase g cpu Start) cpu file off len
+start-has : (g : GuestState) (cpu : ℕ) (op : Op) → Has g cpu op → Has (with_phase g cpu Start) cpu op
 unfolding with_phase
-start-reads g cpu file off len reads = record {
-  below = rw length-set reads.below;
-  command = rw (get_or-set_same g.processors cpu (record { place = (processor_at g cpu).place; phase = Start }) at_start reads.below) reads.command;
+start-has g cpu op has = record {
+  below = rw length-set has.below;
+  command = rw (get_or-set_same g.processors cpu (record { place = (processor_at g cpu).place; phase = Start }) at_start has.below) has.command;
 }
 
 start-phase : (g : GuestState) (cpu : ℕ) → cpu < length g.processors → (processor_at (with_phase g cpu Start) cpu).phase ≡ Start
 unfolding with_phase
-start-phase g cpu below = ap (λ (p : Processor). p.phase) (processor-with_phase g cpu Start below)
+start-phase g cpu below = ap (λ (p : Processor). p.phase) (get_or-set_same g.processors cpu (record { place = (processor_at g cpu).place; phase = Start }) at_start below)
 
 -- a page couldn't be filled: it is freed, and the command fails
-Fit-fill_failed : (g : GuestState) (v : StorageView) (d : DiskView) (w : StorageView) (e : DiskView) (cpu file off len page : ℕ) (cause : Cause) → Fit g v d → Reads g cpu file off len → (processor_at g cpu).phase ≡ Fill page
-    → GivenBack page v d w e → IsMadeUnused (v.values page) (w.values page) → FillCause cause v d w e → Fit (entered (with_parts g (freed g.parts page)) cpu (Read file off len) (Fail cause)) w e
+Fit-fill_failed : (g : GuestState) (v : StorageView) (d : DiskView) (w : StorageView) (e : DiskView) (cpu : ℕ) (op : Op) (page : ℕ) (cause : Cause) → Fit g v d → Has g cpu op → (processor_at g cpu).phase ≡ Fill page
+    → GivenBack page v d w e → IsMadeUnused (v.values page) (w.values page) → FillCause cause v d w e → Fit (entered (with_parts g (freed g.parts page)) cpu op (Fail cause)) w e
 unfolding with_phase
-Fit-fill_failed g v d w e cpu file off len page cause f reads phase back unused risen =
+Fit-fill_failed g v d w e cpu op page cause f has phase back unused risen =
     let now = with_parts g (freed g.parts page) in
-    subst (λ (q : GuestState). Fit q w e) (entered-start now cpu (Read file off len) (Fail cause) reads.below)
-    (Fit-failed (with_phase now cpu Start) v d w e w e cpu file off len cause (Fit-given_up (flat_of g.plan g.journal) g v d w e cpu page f reads.below phase back unused)
-    (start-reads now cpu file off len (record { below = reads.below; command = reads.command })) (start-phase now cpu reads.below) risen)
+    let k = (f.locks.filling cpu page phase).1 in
+    let both : Some k.op ≡ Some op = sym k.command ∙ has.command in
+    let same : k.op ≡ op = cc in
+    subst (λ (q : GuestState). Fit q w e) (entered-start now cpu op (Fail cause) has.below)
+    (Fit-failed (with_phase now cpu Start) v d w e w e cpu op cause (Fit-given_up (flat_of g.plan g.journal) g v d w e cpu page f has.below phase back unused)
+    (start-has now cpu op (record { below = has.below; command = has.command })) (subst NeedsPage same k.needs) (start-phase now cpu has.below) risen)
+
+-- a command that goes through a mapping needs a page
+through-needs : (g : GuestState) (cpu : ℕ) (op : Op) (writes : Bool) (slot off : ℕ) → Maps g cpu op writes slot off → NeedsPage op
+through-needs g cpu (Load number at len) writes slot off maps = tt
+through-needs g cpu (Store number at bytes) writes slot off maps = tt
+through-needs g cpu op writes slot off maps = absurd maps
 
 pub fit_turn : (g : GuestState) (cpu : ℕ) (v : StorageView) (d : DiskView) (h : GuestState) (t : Turn) (w : StorageView) (e : DiskView) → Fit g v d → TurnCase g cpu v d h t w e → Fit h w e
 unfolding with_phase begun
 fit_turn g cpu v d h t w e f (was_idle none eh et ew ee) = rw (eh, ew, ee) f
-fit_turn g cpu v d h t w e f (was_refused file off len refusal reads start refused eh et ew ee) = rw (eh, ew, ee) (Fit-refused g v d cpu file off len refusal f reads start refused)
-fit_turn g cpu v d h t w e f (waited file off len page owner starts locked eh et ew ee) = rw (eh, ew, ee) f
-fit_turn g cpu v d h t w e f (missed why eh et may risen ee) = rw eh (FitAt-may (flat_of g.plan g.journal) g v d w e f may)
-fit_turn g cpu v d h t w e f (was_begun file off len page rest found starts none top eh et back may value) =
-    rw eh (Fit-begun (flat_of g.plan g.journal) g v d w e cpu file off len page rest found f starts none top back may value)
-fit_turn g cpu v d h t w e f (was_gone file off len page found starts has eh et back may lost unused quiet) = rw eh (Fit-gone (flat_of g.plan g.journal) g v d w e cpu file off len page found f starts has back may lost unused)
-fit_turn g cpu v d h t w e f (was_read file off len page all starts has bytes eh et may) = rw eh (Fit-read g w e cpu file off len page all (FitAt-may (flat_of g.plan g.journal) g v d w e f may) starts has bytes)
-fit_turn g cpu v d h t w e f (read_failed file off len starts eh et may risen) =
-    rw eh (Fit-failed g v d w e w e cpu file off len Paging (FitAt-may (flat_of g.plan g.journal) g v d w e f may) starts.reads starts.start risen)
-fit_turn g cpu v d h t w e f (fill_failed file off len page cause reads phase eh et back unused risen) = rw eh (Fit-fill_failed g v d w e cpu file off len page cause f reads phase back unused risen)
-fit_turn g cpu v d h t w e f (was_filled file off len page tag reads phase tagged eh et back value) = rw eh (Fit-filled (flat_of g.plan g.journal) g v d w e cpu page tag f reads.below phase tagged back value)
+fit_turn g cpu v d h t w e f (was_refused op refusal has start refused eh et ew ee) = rw (eh, ew, ee) (Fit-refused g v d cpu op refusal f has start refused)
+fit_turn g cpu v d h t w e f (was_mapped number file first count writable slot starts free eh et ew ee) = rw (eh, ew, ee) (Fit-mapped g v d cpu number file first count writable slot f starts free)
+fit_turn g cpu v d h t w e f (waited op page owner starts locked eh et ew ee) = rw (eh, ew, ee) f
+fit_turn g cpu v d h t w e f (missed op why has eh et may risen ee) = rw eh (FitAt-may (flat_of g.plan g.journal) g v d w e f may)
+fit_turn g cpu v d h t w e f (missed_rehinted why op tag page found after starts wants has eh et back may told misses ee) =
+    rw eh (Fit-rehinted (flat_of g.plan g.journal) g v d w e page tag found after f has back may told)
+fit_turn g cpu v d h t w e f (was_begun op tag page rest found starts wants none top eh et back may value) =
+    rw eh (Fit-begun (flat_of g.plan g.journal) g v d w e cpu op tag page rest found f starts wants none top back may value)
+fit_turn g cpu v d h t w e f (was_gone op tag page found starts wants has eh et back may lost unused quiet) = rw eh (Fit-gone (flat_of g.plan g.journal) g v d w e cpu op tag page found f starts has back may lost unused)
+fit_turn g cpu v d h t w e f (was_read file off len page found all after starts has back may are told eh et) = rw eh (Fit-read g v d w e cpu file off len page found all after f starts has back may are told)
+fit_turn g cpu v d h t w e f (read_failed file off len page found after starts has back may told eh et risen) =
+    rw eh (Fit-failed (with_parts g after) v d w e w e cpu (Read file off len) Paging (Fit-rehinted (flat_of g.plan g.journal) g v d w e page (File file (off / PAGE)) found after f has back may told)
+    (record { below = starts.has.below; command = starts.has.command }) tt starts.start risen)
+fit_turn g cpu v d h t w e f (was_resolved op tag writes slot off page found after starts wants maps has can back may told eh et) =
+    rw eh (Fit-resolved (flat_of g.plan g.journal) g v d w e cpu op tag writes slot off page found after f starts wants maps has can back may told)
+fit_turn g cpu v d h t w e f (was_loaded number off len slot page writable all starts found entry are eh et may) = rw eh (Fit-loaded g v d w e cpu number off len slot page writable all f starts found entry are may)
+fit_turn g cpu v d h t w e f (was_stored number off bytes slot page found all starts slot_found entry back may are value eh et) =
+    rw eh (Fit-stored g v d w e cpu number off bytes slot page found all f starts slot_found entry back may are value)
+fit_turn g cpu v d h t w e f (entry_failed op writes slot off starts maps eh et may risen) =
+    rw eh (Fit-failed g v d w e w e cpu op Paging (FitAt-may (flat_of g.plan g.journal) g v d w e f may) starts.has (through-needs g cpu op writes slot off maps) starts.start risen)
+fit_turn g cpu v d h t w e f (fill_failed op page cause has phase eh et back unused risen) = rw eh (Fit-fill_failed g v d w e cpu op page cause f has phase back unused risen)
+fit_turn g cpu v d h t w e f (was_filled op page tag has phase tagged eh et back value) = rw eh (Fit-filled (flat_of g.plan g.journal) g v d w e cpu page tag f has.below phase tagged back value)

@@ -1,10 +1,11 @@
 -- A guest before its first turn fits.
-use Rattle.std.proofs.Common.{◌≡◌, ◌<◌, ◌≤◌, ◌+◌, ℕ, zero, suc, List, [], ◌∷◌, map, get_or, replicate, Contains, Some, None, refl, ap, sym, ◌∙◌, inl, inr, subst, arith}
+use Rattle.std.proofs.Common.{◌≡◌, ◌<◌, ◌≤◌, ◌+◌, ◌*◌, ℕ, zero, suc, List, [], ◌∷◌, map, get_or, Contains, Some, None, refl, ap, sym, ◌∙◌, subst, arith}
 use Rattle.std.specs.List.{range_with_len, sum_by}
-use Rattle.std.proofs.lemmas.Bool.{cases_lt}
-use Rattle.std.proofs.lemmas.List.{get_or-replicate, get_or_past, length-map, length-replicate}
+use Rattle.std.proofs.lemmas.List.{length-map, length-replicate}
 use Rattle.std.proofs.lemmas.List.FromFn.{length-range_with_len, get_or-range_with_len}
 use Rattle.std.proofs.lemmas.List.Sums.{sum_by-cons}
+use Rattle.cmm_types.specs.declared.page.TheConstants.{PAGE}
+use Rattle.cmm_types.specs.declared.page.Tag.TheVariants.{File}
 use Rattle.cmm_types.specs.declared.plan.TheConstants.{MAX_MAPPING_SLOTS}
 use Rattle.cmm_types.specs.declared.plan.CpuPlan.{CpuPlan}
 use Rattle.cmm_types.specs.declared.plan.GuestPlan.{GuestPlan}
@@ -12,12 +13,14 @@ use Rattle.cmm_types.specs.InRange.{GuestInRange}
 use Rattle.cmm_io.specs.DiskOf.{disk_of}
 use Rattle.cmm_io.specs.DiskView.{DiskView, AreBlocks}
 use Rattle.cmm_io.proofs.DiskBlocks.{whole_disk, length-disk_of}
-use Rattle.cmm_flat.specs.State.{FlatState, opening}
+use Rattle.cmm_flat.specs.Bytes.{bytes_at}
+use Rattle.cmm_flat.specs.State.{FlatState, opening, file_at}
 use Rattle.cmm_flat.specs.Legal.{Progress, at_start as at_first}
 use Rattle.essa_state.specs.PageValue.{PageValue}
 use Rattle.cmm_storage.specs.StorageView.{StorageView}
 use Rattle.guest_pages.specs.declared.info.PageInfo.{PageInfo}
-use Rattle.guest_pages.specs.PagesView.{free_info, info_at, AreDistinct, opening_pages}
+use Rattle.guest_pages.specs.PagesView.{free_info, AreDistinct}
+use Rattle.guest_cache.specs.CacheView.{IsTag}
 use Rattle.guest_cache.specs.CacheLaws.{IsCache-opening, page_of-opening}
 use Rattle.guest_rules.specs.declared.parts.Parts.{Parts}
 use Rattle.guest_rules.specs.declared.processor.Phase.TheVariants.{Start, Fill}
@@ -25,10 +28,10 @@ use Rattle.guest_rules.specs.declared.processor.Processor.{Processor}
 use Rattle.guest_rules.specs.GuestState.{at_start, processor_at, opening_guest}
 use Rattle.guest_rules.specs.Built.{GuestIsBuilt}
 use Rattle.guest_rules.specs.Fresh.{AreFresh, fresh_value}
-use Rattle.guest_rules.specs.Fit.{PagesFit, MappingsFit, LocksFit, ContentsFit, JournalFit, FaultsFit, Fit, one_if_lost}
+use Rattle.guest_rules.specs.Fit.{PagesFit, LocksFit, FlatFit, JournalFit, FaultsFit, Fit, backing, current_at, one_if_lost}
 use Rattle.guest_rules.proofs.Faults.{over_pages-le}
-use Rattle.guest_rules.proofs.PageFits.{EachPageFits, PageFits-free, MappingsFit-from, HintsFit-from, ContentsFit-from}
-use Rattle.guest_rules.proofs.Currents.{FlatBacked, FlatFit-from}
+use Rattle.guest_rules.proofs.PageFits.{EachPageFits, PageFits-free, PinsFit-from, HintsFit-from, ContentsFit-from}
+use Rattle.guest_rules.proofs.OpeningMaps.{SlotsFit-opening, EntriesFit-opening, info-opening}
 use Rattle.guest_rules.proofs.OpeningFiles.{planned_pages, opening-page, opening-lengths}
 
 -- a list of one value, read at that value as default
@@ -36,12 +39,6 @@ all-same : {X A : Type 0} (xs : List A) (x : X) (i : ℕ) → get_or (map (λ a.
 all-same [] x i = refl
 all-same (a ∷ xs) x zero = refl
 all-same (a ∷ xs) x (suc i) = all-same xs x i
-
-info-opening : (count page : ℕ) → info_at (opening_pages count) page ≡ free_info
-info-opening count page = elim (cases_lt page count) [
-  | inl below ↦ get_or-replicate count page free_info free_info below
-  | inr past ↦ get_or_past (replicate count free_info) page free_info (omega (arith, length-replicate count free_info))
-]
 
 -- numbers that are counted up
 in_range : (from count x : ℕ) → Contains (range_with_len from count) x → (from ≤ x) × (x < from + count)
@@ -71,6 +68,7 @@ processor-opening plan cpu = all-same plan.cpus at_start cpu
 
 LocksFit-opening : (plan : GuestPlan) → LocksFit (opening_guest plan)
 LocksFit-opening plan = record {
+  stale_clean = λ page u. ap (λ (i : PageInfo). i.dirty) (info-opening plan.pages page);
   filling = λ cpu page phase. let bad : Start ≡ Fill page = ap (λ (p : Processor). p.phase) (sym (processor-opening plan cpu)) ∙ phase in absurd cc;
   locked = λ cpu page owner. let bad : None ≡ Some cpu = ap (λ (i : PageInfo). i.owner) (sym (info-opening plan.pages page)) ∙ owner in absurd cc;
   stale = λ page tag some none. let bad : None ≡ Some tag = ap (λ (i : PageInfo). i.tag) (sym (info-opening plan.pages page)) ∙ some in absurd cc;
@@ -110,11 +108,13 @@ Fit-opening plan v d range built fresh = record {
     blocks = fresh.count;
   };
   pages = PagesFit-opening plan;
-  mappings = mappings;
+  slots = SlotsFit-opening plan;
+  entries = EntriesFit-opening plan;
+  pins = PinsFit-from parts v d fits;
   locks = LocksFit-opening plan;
   hints = HintsFit-from parts v d fresh.none_held fits;
-  contents = contents;
-  flat = FlatFit-from flat (opening_guest plan) v d fits.size (PagesFit-opening plan) mappings contents backed;
+  contents = ContentsFit-from parts v d fresh.tells (disk_of plan.files plan.swap) fresh.blocks blocks fits;
+  flat = backed;
   journal = JournalFit-opening plan;
   faults = FaultsFit-opening plan v fresh.values;
 }
@@ -133,17 +133,16 @@ Fit-opening plan v d range built fresh = record {
           rw (info-opening plan.pages page) (PageFits-free parts.cache d (v.values page) (ap (λ (x : PageValue). x.usage) is) (ap (λ (x : PageValue). x.changed) is) (rw is (refl, refl)));
     }
 
-    mappings : MappingsFit flat parts v
-    mappings = MappingsFit-from flat parts v d refl fits
-
     blocks : AreBlocks d.count d.blocks
     blocks = rw fresh.blocks (length-disk_of plan.files plan.swap ∙ sym fresh.count, whole_disk plan.files plan.swap range.files.each)
 
-    contents : ContentsFit parts v d
-    contents = ContentsFit-from parts v d fresh.tells (disk_of plan.files plan.swap) fresh.blocks blocks fits
+    block : (file index : ℕ) → IsTag parts.cache (File file index) → bytes_at (file_at flat.files file) (PAGE * index) PAGE ≡ backing parts.cache d (File file index)
+    block file index is = rw fresh.blocks (opening-page plan.files plan.swap file index is.0 is.1)
 
-    backed : FlatBacked flat (opening_guest plan) d
+    backed : FlatFit flat (opening_guest plan) v d
     backed = record {
       lengths = opening-lengths plan.files range.files.each;
-      pages = λ file index is. rw fresh.blocks (opening-page plan.files plan.swap file index is.0 is.1);
+      pages = λ file index is.
+          let none = page_of-opening (planned_pages plan.files) MAX_MAPPING_SLOTS (File file index) is in
+          block file index is ∙ ap (λ o. current_at parts v o (backing parts.cache d (File file index))) (sym none);
     }

@@ -1,13 +1,11 @@
 -- What fit says of one page, its info and its value; what the host may do leaves it.
 use Rattle.std.proofs.Common.{◌≡◌, ◌<◌, ℕ, true, false, List, length, Some, None, refl, ap, sym, ◌∙◌, inl, inr, arith, subst}
-use Rattle.std.specs.FinMap as finite
 use Rattle.std.proofs.lemmas.List.{get_or_past}
 use Rattle.std.proofs.lemmas.Bool.{cases_lt}
-use Rattle.cmm_types.specs.declared.page.Usage.TheVariants.{U}
+use Rattle.cmm_types.specs.declared.page.Usage.TheVariants.{U, V}
 use Rattle.cmm_types.specs.declared.page.Tag.{Tag}
 use Rattle.cmm_types.specs.declared.page.Tag.TheVariants.{File, Anon}
 use Rattle.cmm_io.specs.DiskView.{DiskView, AreBlocks}
-use Rattle.cmm_flat.specs.State.{FlatState}
 use Rattle.essa_state.specs.PageValue.{PageValue, Bytes, IsValue, MayBecome, StandsWith, is_lost, is_blank}
 use Rattle.essa_state.specs.PageValueLaws.{MayBecome-is_value}
 use Rattle.cmm_storage.specs.StorageView.{StorageView}
@@ -16,32 +14,29 @@ use Rattle.guest_pages.specs.PagesView.{PagesView, free_info, info_at}
 use Rattle.guest_cache.specs.CacheView.{CacheView}
 use Rattle.guest_rules.specs.declared.parts.Parts.{Parts}
 use Rattle.guest_rules.specs.Hint.{hint}
-use Rattle.guest_rules.specs.Fit.{MappingsFit, HintsFit, ContentsFit, backing}
+use Rattle.guest_rules.specs.Fit.{PinsFit, HintsFit, ContentsFit, backing}
 use Rattle.guest_rules.proofs.ValueLaws.{hint-free, hint-tagged, may-usage, may-unchanged}
 
 pub record PageFits (cache : CacheView) (d : DiskView) (info : PageInfo) (value : PageValue) : Type 0 where
   pub unpinned : info.pins ≡ 0
-  pub unshown : info.writers ≡ 0
-  pub clean : info.dirty ≡ false
   pub of_files : (tag : Tag) → info.tag ≡ Some tag → (file : ℕ) × (index : ℕ) × (tag ≡ File file index)
-  pub unchanged : value.changed ≡ false
   pub is_value : IsValue value
   pub hinted : value.usage ≡ hint info
+  pub volatile : value.usage ≡ V → value.changed ≡ false
   pub not_blank : (tag : Tag) → info.tag ≡ Some tag → info.uptodate ≡ true → is_blank value.contents ≡ false
-  pub same : (tag : Tag) → info.tag ≡ Some tag → info.uptodate ≡ true → is_lost value.contents ≡ false → value.contents ≡ Bytes (backing cache d tag)
+  pub same : (tag : Tag) → info.tag ≡ Some tag → info.uptodate ≡ true → info.dirty ≡ false → value.changed ≡ false → is_lost value.contents ≡ false
+      → value.contents ≡ Bytes (backing cache d tag)
 
 -- the host may move the page
 pub PageFits-may : (cache : CacheView) (d : DiskView) (info : PageInfo) (x y : PageValue) → PageFits cache d info x → MayBecome x y → PageFits cache d info y
 PageFits-may cache d info x y s may = record {
   unpinned = s.unpinned;
-  unshown = s.unshown;
-  clean = s.clean;
   of_files = s.of_files;
-  unchanged = may-unchanged x y may s.unchanged;
   is_value = MayBecome-is_value x y s.is_value may;
   hinted = may-usage x y may ∙ s.hinted;
+  volatile = λ u. may-unchanged x y may (s.volatile (sym (may-usage x y may) ∙ u));
   not_blank = λ tag t u. blank tag t u may;
-  same = λ tag t u. bytes tag t u may;
+  same = λ tag t u clean unchanged. bytes tag t u clean unchanged may;
 }
   where
     tagged : (tag : Tag) → info.tag ≡ Some tag → x.usage ≡ U → ⊥
@@ -52,10 +47,11 @@ PageFits-may cache d info x y s may = record {
     blank tag t u (inr (inl lost)) = ap (λ (z : PageValue). is_blank z.contents) lost.value
     blank tag t u (inr (inr other)) = absurd (tagged tag t other.unused)
 
-    bytes : (tag : Tag) → info.tag ≡ Some tag → info.uptodate ≡ true → MayBecome x y → is_lost y.contents ≡ false → y.contents ≡ Bytes (backing cache d tag)
-    bytes tag t u (inl e) there = ap (λ (z : PageValue). z.contents) e ∙ s.same tag t u (ap (λ (z : PageValue). is_lost z.contents) (sym e) ∙ there)
-    bytes tag t u (inr (inl lost)) there = let bad : true ≡ false = ap (λ (z : PageValue). is_lost z.contents) (sym lost.value) ∙ there in absurd cc
-    bytes tag t u (inr (inr other)) there = absurd (tagged tag t other.unused)
+    bytes : (tag : Tag) → info.tag ≡ Some tag → info.uptodate ≡ true → info.dirty ≡ false → y.changed ≡ false → MayBecome x y → is_lost y.contents ≡ false → y.contents ≡ Bytes (backing cache d tag)
+    bytes tag t u clean unchanged (inl e) there =
+        ap (λ (z : PageValue). z.contents) e ∙ s.same tag t u clean (ap (λ (z : PageValue). z.changed) (sym e) ∙ unchanged) (ap (λ (z : PageValue). is_lost z.contents) (sym e) ∙ there)
+    bytes tag t u clean unchanged (inr (inl lost)) there = let bad : true ≡ false = ap (λ (z : PageValue). is_lost z.contents) (sym lost.value) ∙ there in absurd cc
+    bytes tag t u clean unchanged (inr (inr other)) there = absurd (tagged tag t other.unused)
 
 -- what backs a tag depends on the files and the blocks
 pub backing-same : (old new : CacheView) (d e : DiskView) (tag : Tag) → new.files ≡ old.files → e.blocks ≡ d.blocks → backing new e tag ≡ backing old d tag
@@ -65,28 +61,24 @@ backing-same old new d e (Anon slot index) files blocks = refl
 pub PageFits-same : (old new : CacheView) (d e : DiskView) (info : PageInfo) (x : PageValue) → new.files ≡ old.files → e.blocks ≡ d.blocks → PageFits old d info x → PageFits new e info x
 PageFits-same old new d e info x files blocks s = record {
   unpinned = s.unpinned;
-  unshown = s.unshown;
-  clean = s.clean;
   of_files = s.of_files;
-  unchanged = s.unchanged;
   is_value = s.is_value;
   hinted = s.hinted;
+  volatile = s.volatile;
   not_blank = s.not_blank;
-  same = λ tag t u there. s.same tag t u there ∙ ap (λ b. Bytes b) (sym (backing-same old new d e tag files blocks));
+  same = λ tag t u clean unchanged there. s.same tag t u clean unchanged there ∙ ap (λ b. Bytes b) (sym (backing-same old new d e tag files blocks));
 }
 
 -- a free page
 pub PageFits-free : (cache : CacheView) (d : DiskView) (x : PageValue) → x.usage ≡ U → x.changed ≡ false → StandsWith x.contents U false → PageFits cache d free_info x
 PageFits-free cache d x usage changed stands = record {
   unpinned = refl;
-  unshown = refl;
-  clean = refl;
   of_files = λ tag t. absurd cc;
-  unchanged = changed;
   is_value = rw (usage, changed) stands;
   hinted = usage ∙ sym hint-free;
+  volatile = λ v. changed;
   not_blank = λ tag t u. absurd cc;
-  same = λ tag t u there. absurd cc;
+  same = λ tag t u clean unchanged there. absurd cc;
 }
 
 -- fit of each page
@@ -94,19 +86,17 @@ pub record EachPageFits (parts : Parts) (v : StorageView) (d : DiskView) : Type 
   pub size : length parts.pages.infos ≡ v.pages
   pub each : (page : ℕ) → page < v.pages → PageFits parts.cache d (info_at parts.pages page) (v.values page)
 
-pub EachPageFits-from : (flat : FlatState) (parts : Parts) (v : StorageView) (d : DiskView) → length parts.pages.infos ≡ v.pages → MappingsFit flat parts v → HintsFit parts v → ContentsFit parts v d → EachPageFits parts v d
-EachPageFits-from flat parts v d size mappings hints contents = record {
+pub EachPageFits-from : (parts : Parts) (v : StorageView) (d : DiskView) → length parts.pages.infos ≡ v.pages → PinsFit parts → HintsFit parts v → ContentsFit parts v d → EachPageFits parts v d
+EachPageFits-from parts v d size pins hints contents = record {
   size = size;
   each = λ page below. record {
-    unpinned = mappings.unpinned page;
-    unshown = mappings.unshown page;
-    clean = mappings.clean page;
-    of_files = mappings.of_files page;
-    unchanged = mappings.unchanged page below;
+    unpinned = pins.unpinned page;
+    of_files = pins.of_files page;
     is_value = hints.values page below;
     hinted = hints.hints page below;
+    volatile = hints.volatile page below;
     not_blank = λ tag t u. contents.not_blank page tag below t u;
-    same = λ tag t u there. contents.same page tag below t u (mappings.clean page) (mappings.unchanged page below) there;
+    same = λ tag t u clean unchanged there. contents.same page tag below t u clean unchanged there;
   };
 }
 
@@ -117,13 +107,9 @@ every_info Fits pages count size free each page = elim (cases_lt page count) [
   | inr past ↦ subst Fits (sym (get_or_past pages.infos page free_info (omega (arith, size)))) free
 ]
 
-pub MappingsFit-from : (flat : FlatState) (parts : Parts) (v : StorageView) (d : DiskView) → flat.mappings ≡ finite.empty → EachPageFits parts v d → MappingsFit flat parts v
-MappingsFit-from flat parts v d none fits = record {
-  none_live = none;
+pub PinsFit-from : (parts : Parts) (v : StorageView) (d : DiskView) → EachPageFits parts v d → PinsFit parts
+PinsFit-from parts v d fits = record {
   unpinned = every_info (λ info. info.pins ≡ 0) parts.pages v.pages fits.size refl (λ page below. (fits.each page below).unpinned);
-  unshown = every_info (λ info. info.writers ≡ 0) parts.pages v.pages fits.size refl (λ page below. (fits.each page below).unshown);
-  clean = every_info (λ info. info.dirty ≡ false) parts.pages v.pages fits.size refl (λ page below. (fits.each page below).clean);
-  unchanged = λ page below. (fits.each page below).unchanged;
   of_files = every_info (λ info. (tag : Tag) → info.tag ≡ Some tag → (file : ℕ) × (index : ℕ) × (tag ≡ File file index)) parts.pages v.pages fits.size (λ tag t. absurd cc) (λ page below. (fits.each page below).of_files);
 }
 
@@ -132,7 +118,7 @@ HintsFit-from parts v d none fits = record {
   none_held = none;
   values = λ page below. (fits.each page below).is_value;
   hints = λ page below. (fits.each page below).hinted;
-  volatile = λ page below usage. (fits.each page below).unchanged;
+  volatile = λ page below. (fits.each page below).volatile;
 }
 
 pub ContentsFit-from : (parts : Parts) (v : StorageView) (d : DiskView) → v.tells ≡ true → (blocks : List (List ℕ)) → d.blocks ≡ Some blocks → AreBlocks d.count d.blocks → EachPageFits parts v d → ContentsFit parts v d
@@ -141,5 +127,12 @@ ContentsFit-from parts v d tells blocks told are fits = record {
   told = (blocks, told);
   blocks = are;
   not_blank = λ page tag below t u. (fits.each page below).not_blank tag t u;
-  same = λ page tag below t u clean unchanged there. (fits.each page below).same tag t u there;
+  same = λ page tag below t u clean unchanged there. (fits.each page below).same tag t u clean unchanged there;
 }
+
+-- a page with a tag is one of the guest's
+pub tagged-below : (pages : PagesView) (page : ℕ) (tag : Tag) → (info_at pages page).tag ≡ Some tag → page < length pages.infos
+tagged-below pages page tag tagged = elim (cases_lt page (length pages.infos)) [
+  | inl below ↦ below
+  | inr past ↦ let bad : None ≡ Some tag = ap (λ (i : PageInfo). i.tag) (sym (get_or_past pages.infos page free_info past)) ∙ tagged in absurd cc
+]

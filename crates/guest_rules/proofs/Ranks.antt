@@ -1,133 +1,207 @@
 -- How many turns a processor has at most to the end of its command, over a storage that never misses.
 use Rattle.std.specs.Prelude.{◌≡◌, ◌⊎◌, ◌≤◌, ℕ, ◌/◌, Bool, true, false, Option, Some, None, refl}
-use Rattle.std.proofs.Common.{arith, inl, inr, sym, ap, ◌∙◌}
+use Rattle.std.proofs.Common.{arith, inl, inr, sym, ap, subst, ◌∙◌}
 use Rattle.cmm_types.specs.declared.page.TheConstants.{PAGE}
-use Rattle.cmm_types.specs.declared.page.Tag.TheVariants.{File}
+use Rattle.cmm_types.specs.declared.page.Tag.{Tag}
 use Rattle.cmm_types.specs.declared.command.Op.{Op}
-use Rattle.cmm_types.specs.declared.command.Op.TheVariants.{Read}
-use Rattle.cmm_flat.specs.Legal.{command_of}
-use Rattle.cmm_io.specs.DiskView.{DiskView}
+use Rattle.cmm_types.specs.declared.command.Op.TheVariants.{Load, Store}
+use Rattle.cmm_flat.specs.Legal.{command_of, process_of}
 use Rattle.essa_state.specs.PageValue.{is_lost}
 use Rattle.cmm_storage.specs.StorageView.{StorageView}
 use Rattle.guest_pages.specs.PagesView.{info_at}
 use Rattle.guest_cache.specs.CacheView.{page_of}
+use Rattle.guest_maps.specs.declared.slot.Pte.{Pte}
+use Rattle.guest_maps.specs.MapsView.{entry_at}
 use Rattle.guest_rules.specs.declared.processor.Phase.{Phase}
 use Rattle.guest_rules.specs.declared.processor.Phase.TheVariants.{Start, Fill}
 use Rattle.guest_rules.specs.GuestState.{GuestState, processor_at}
-use Rattle.guest_rules.specs.Built.{IsRead}
-use Rattle.guest_rules.specs.Fit.{Fit}
-use Rattle.guest_rules.proofs.TurnCases.{Reads, StartsReading}
-use Rattle.guest_rules.proofs.Ready.{reads_only}
+use Rattle.guest_rules.proofs.TurnCases.{Wants, Maps, CanBeSet, wanted_tag}
 
--- the processor reads these bytes, and is in this phase
-pub record IsAt (g : GuestState) (cpu file off len : ℕ) (phase : Phase) : Type 0 where
-  pub command : command_of g.plan cpu (processor_at g cpu).place ≡ Some (Read file off len)
-  pub phase_is : (processor_at g cpu).phase ≡ phase
+-- the entry at the place of a load or store serves it
+pub record IsServed (g : GuestState) (cpu : ℕ) (op : Op) : Type 0 where
+  pub writes : Bool
+  pub slot : ℕ
+  pub off : ℕ
+  pub maps : Maps g cpu op writes slot off
+  pub pte : Pte
+  pub at : entry_at g.parts.maps slot (off / PAGE) ≡ Some pte
+  pub allows : writes ≡ true → pte.writable ≡ true
 
--- at most so many turns are left. That a page is filled for another tag than the command's doesn't come, but costs nothing here
+-- the command's page is there, and isn't lost
+pub record HasItsPage (g : GuestState) (v : StorageView) (cpu : ℕ) (op : Op) (lost : Bool) : Type 0 where
+  pub start : (processor_at g cpu).phase ≡ Start
+  pub tag : Tag
+  pub page : ℕ
+  pub wants : Wants g cpu op tag
+  pub found : page_of g.parts.cache tag ≡ Some page
+  pub lost_is : is_lost (v.values page).contents ≡ lost
+
+-- at most so many turns are left of this command. Where its page is there it is one less for a read. That a page is filled for another
+-- tag than the command's doesn't come, but costs nothing here
+pub data OpRank (g : GuestState) (v : StorageView) (cpu : ℕ) (op : Op) (left : ℕ) : Type 0 where
+  no_tag : (processor_at g cpu).phase ≡ Start → wanted_tag g.parts (process_of g.plan cpu) op ≡ None → 1 ≤ left → OpRank g v cpu op left
+  served : HasItsPage g v cpu op false → IsServed g cpu op → 1 ≤ left → OpRank g v cpu op left
+  has_page : HasItsPage g v cpu op false → 2 ≤ left → OpRank g v cpu op left
+  fills_own : (page : ℕ) (tag : Tag) → (processor_at g cpu).phase ≡ Fill page → Wants g cpu op tag → (info_at g.parts.pages page).tag ≡ Some tag → 3 ≤ left → OpRank g v cpu op left
+  has_none : (tag : Tag) → (processor_at g cpu).phase ≡ Start → Wants g cpu op tag → page_of g.parts.cache tag ≡ None → 4 ≤ left → OpRank g v cpu op left
+  has_lost : HasItsPage g v cpu op true → 5 ≤ left → OpRank g v cpu op left
+  fills : (page : ℕ) → (processor_at g cpu).phase ≡ Fill page → 6 ≤ left → OpRank g v cpu op left
+
 pub data Rank (g : GuestState) (v : StorageView) (cpu : ℕ) (left : ℕ) : Type 0 where
   no_command : command_of g.plan cpu (processor_at g cpu).place ≡ None → 1 ≤ left → Rank g v cpu left
-  has_page : (file off len page : ℕ) → IsAt g cpu file off len Start → page_of g.parts.cache (File file (off / PAGE)) ≡ Some page
-      → is_lost (v.values page).contents ≡ false → 1 ≤ left → Rank g v cpu left
-  fills_own : (file off len page : ℕ) → IsAt g cpu file off len (Fill page) → (info_at g.parts.pages page).tag ≡ Some (File file (off / PAGE)) → 2 ≤ left → Rank g v cpu left
-  has_none : (file off len : ℕ) → IsAt g cpu file off len Start → page_of g.parts.cache (File file (off / PAGE)) ≡ None → 3 ≤ left → Rank g v cpu left
-  has_lost : (file off len page : ℕ) → IsAt g cpu file off len Start → page_of g.parts.cache (File file (off / PAGE)) ≡ Some page
-      → is_lost (v.values page).contents ≡ true → 4 ≤ left → Rank g v cpu left
-  fills : (page : ℕ) → (processor_at g cpu).phase ≡ Fill page → 5 ≤ left → Rank g v cpu left
+  has_command : (op : Op) → command_of g.plan cpu (processor_at g cpu).place ≡ Some op → OpRank g v cpu op left → Rank g v cpu left
+
+op_rank_some : (g : GuestState) (v : StorageView) (cpu : ℕ) (op : Op) (left : ℕ) → OpRank g v cpu op left → 1 ≤ left
+op_rank_some g v cpu op left (no_tag start none h) = h
+op_rank_some g v cpu op left (served has is h) = h
+op_rank_some g v cpu op left (has_page has h) = omega (arith, h)
+op_rank_some g v cpu op left (fills_own page tag phase wants tagged h) = omega (arith, h)
+op_rank_some g v cpu op left (has_none tag start wants none h) = omega (arith, h)
+op_rank_some g v cpu op left (has_lost has h) = omega (arith, h)
+op_rank_some g v cpu op left (fills page phase h) = omega (arith, h)
 
 pub rank_some : (g : GuestState) (v : StorageView) (cpu left : ℕ) → Rank g v cpu left → 1 ≤ left
 rank_some g v cpu left (no_command none h) = h
-rank_some g v cpu left (has_page file off len page at found there h) = h
-rank_some g v cpu left (fills_own file off len page at tagged h) = omega (arith, h)
-rank_some g v cpu left (has_none file off len at none h) = omega (arith, h)
-rank_some g v cpu left (has_lost file off len page at found lost h) = omega (arith, h)
-rank_some g v cpu left (fills page phase h) = omega (arith, h)
+rank_some g v cpu left (has_command op command rank) = op_rank_some g v cpu op left rank
 
--- a bound may be larger
-pub rank-le : (g : GuestState) (v : StorageView) (cpu left more : ℕ) → left ≤ more → Rank g v cpu left → Rank g v cpu more
-rank-le g v cpu left more le (no_command none h) = no_command none (omega (arith, h, le))
-rank-le g v cpu left more le (has_page file off len page at found there h) = has_page file off len page at found there (omega (arith, h, le))
-rank-le g v cpu left more le (fills_own file off len page at tagged h) = fills_own file off len page at tagged (omega (arith, h, le))
-rank-le g v cpu left more le (has_none file off len at none h) = has_none file off len at none (omega (arith, h, le))
-rank-le g v cpu left more le (has_lost file off len page at found lost h) = has_lost file off len page at found lost (omega (arith, h, le))
-rank-le g v cpu left more le (fills page phase h) = fills page phase (omega (arith, h, le))
+-- the rank of a processor that has this command
+pub rank_of : (g : GuestState) (v : StorageView) (cpu : ℕ) (op : Op) (left : ℕ) → command_of g.plan cpu (processor_at g cpu).place ≡ Some op → Rank g v cpu left → OpRank g v cpu op left
+rank_of g v cpu op left command (no_command none h) = let bad : None ≡ Some op = sym none ∙ command in absurd cc
+rank_of g v cpu op left command (has_command op' command' rank) =
+    let both : Some op' ≡ Some op = sym command' ∙ command in
+    let same : op' ≡ op = cc in
+    subst (λ q. OpRank g v cpu q left) same rank
 
--- a processor in phase Start has at most 4 turns left
-start_lost : (g : GuestState) (v : StorageView) (cpu file off len left page : ℕ) (lost : Bool) → IsAt g cpu file off len Start → 4 ≤ left
-    → page_of g.parts.cache (File file (off / PAGE)) ≡ Some page → is_lost (v.values page).contents ≡ lost → Rank g v cpu left
-start_lost g v cpu file off len left page true at h found lost = has_lost file off len page at found lost h
-start_lost g v cpu file off len left page false at h found there = has_page file off len page at found there (omega (arith, h))
+-- a processor in phase Start has at most 5 turns left
+start_page : (g : GuestState) (v : StorageView) (cpu : ℕ) (op : Op) (left : ℕ) (lost : Bool) → HasItsPage g v cpu op lost → 5 ≤ left → OpRank g v cpu op left
+start_page g v cpu op left true has h = has_lost has h
+start_page g v cpu op left false has h = has_page has (omega (arith, h))
 
-start_found : (g : GuestState) (v : StorageView) (cpu file off len left : ℕ) (page : Option ℕ) → IsAt g cpu file off len Start → 4 ≤ left
-    → page_of g.parts.cache (File file (off / PAGE)) ≡ page → Rank g v cpu left
-start_found g v cpu file off len left None at h none = has_none file off len at none (omega (arith, h))
-start_found g v cpu file off len left (Some page) at h found = start_lost g v cpu file off len left page (is_lost (v.values page).contents) at h found refl
+start_found : (g : GuestState) (v : StorageView) (cpu : ℕ) (op : Op) (left : ℕ) (tag : Tag) (page : Option ℕ) → (processor_at g cpu).phase ≡ Start → 5 ≤ left
+    → Wants g cpu op tag → page_of g.parts.cache tag ≡ page → OpRank g v cpu op left
+start_found g v cpu op left tag None start h wants none = has_none tag start wants none (omega (arith, h))
+start_found g v cpu op left tag (Some page) start h wants found =
+    start_page g v cpu op left (is_lost (v.values page).contents) (record { start = start; tag = tag; page = page; wants = wants; found = found; lost_is = refl }) h
 
-pub start_rank : (g : GuestState) (v : StorageView) (cpu file off len left : ℕ) → IsAt g cpu file off len Start → 4 ≤ left → Rank g v cpu left
-start_rank g v cpu file off len left at h = start_found g v cpu file off len left (page_of g.parts.cache (File file (off / PAGE))) at h refl
+start_tagged : (g : GuestState) (v : StorageView) (cpu : ℕ) (op : Op) (left : ℕ) (tag : Option Tag) → (processor_at g cpu).phase ≡ Start → 5 ≤ left
+    → wanted_tag g.parts (process_of g.plan cpu) op ≡ tag → OpRank g v cpu op left
+start_tagged g v cpu op left None start h none = no_tag start none (omega (arith, h))
+start_tagged g v cpu op left (Some tag) start h wants = start_found g v cpu op left tag (page_of g.parts.cache tag) start h wants refl
 
--- and every processor at most 5
-phase_rank : (g : GuestState) (v : StorageView) (cpu file off len : ℕ) (phase : Phase) → IsAt g cpu file off len phase → Rank g v cpu 5
-phase_rank g v cpu file off len Start at = start_rank g v cpu file off len 5 at (omega arith)
-phase_rank g v cpu file off len (Fill page) at = fills page at.phase_is (omega arith)
+pub start_rank : (g : GuestState) (v : StorageView) (cpu : ℕ) (op : Op) (left : ℕ) → (processor_at g cpu).phase ≡ Start → 5 ≤ left → OpRank g v cpu op left
+start_rank g v cpu op left start h = start_tagged g v cpu op left (wanted_tag g.parts (process_of g.plan cpu) op) start h refl
 
-op_rank : (g : GuestState) (v : StorageView) (cpu : ℕ) (op : Op) → IsRead op → command_of g.plan cpu (processor_at g cpu).place ≡ Some op → Rank g v cpu 5
-op_rank g v cpu (Read file off len) is_read command = phase_rank g v cpu file off len (processor_at g cpu).phase (record { command = command; phase_is = refl })
-op_rank g v cpu op is_read command = absurd is_read
+-- and every processor at most 12, of which it needs 6
+phase_rank : (g : GuestState) (v : StorageView) (cpu : ℕ) (op : Op) (left : ℕ) (phase : Phase) → (processor_at g cpu).phase ≡ phase → 6 ≤ left → OpRank g v cpu op left
+phase_rank g v cpu op left Start phase h = start_rank g v cpu op left phase (omega (arith, h))
+phase_rank g v cpu op left (Fill page) phase h = fills page phase h
 
-command_rank : (g : GuestState) (v : StorageView) (d : DiskView) (cpu : ℕ) (op : Option Op) → Fit g v d → command_of g.plan cpu (processor_at g cpu).place ≡ op → Rank g v cpu 5
-command_rank g v d cpu None f none = no_command none (omega arith)
-command_rank g v d cpu (Some op) f command = op_rank g v cpu op (reads_only _ g v d cpu (processor_at g cpu).place op f command) command
+command_rank : (g : GuestState) (v : StorageView) (cpu left : ℕ) (op : Option Op) → command_of g.plan cpu (processor_at g cpu).place ≡ op → 6 ≤ left → Rank g v cpu left
+command_rank g v cpu left None none h = no_command none (omega (arith, h))
+command_rank g v cpu left (Some op) command h = has_command op command (phase_rank g v cpu op left (processor_at g cpu).phase refl h)
 
-pub any_rank : (g : GuestState) (v : StorageView) (d : DiskView) (cpu : ℕ) → Fit g v d → Rank g v cpu 5
-any_rank g v d cpu f = command_rank g v d cpu (command_of g.plan cpu (processor_at g cpu).place) f refl
+pub any_rank : (g : GuestState) (v : StorageView) (cpu left : ℕ) → 6 ≤ left → Rank g v cpu left
+any_rank g v cpu left h = command_rank g v cpu left (command_of g.plan cpu (processor_at g cpu).place) refl h
 
--- one command has one tag
-same_tag : (file off len file' off' len' : ℕ) (op : Option Op) → op ≡ Some (Read file off len) → op ≡ Some (Read file' off' len') → File file (off / PAGE) ≡ File file' (off' / PAGE)
-same_tag file off len file' off' len' op a b =
-    let both : Some (Read file off len) ≡ Some (Read file' off' len') = sym a ∙ b in
-    let files : file ≡ file' = cc in
-    let offs : off ≡ off' = cc in
-    rw (files, offs) refl
+-- a command wants one tag
+one_tag : (g : GuestState) (cpu : ℕ) (op : Op) (a b : Tag) → Wants g cpu op a → Wants g cpu op b → a ≡ b
+one_tag g cpu op a b wants wants' = let both : Some a ≡ Some b = sym wants ∙ wants' in cc
 
--- a processor whose command's page is wanting has at least 3 turns left
-pub rank-none : (g : GuestState) (v : StorageView) (cpu file off len left : ℕ) → StartsReading g cpu file off len → page_of g.parts.cache (File file (off / PAGE)) ≡ None
-    → Rank g v cpu left → 3 ≤ left
-rank-none g v cpu file off len left starts none (no_command bad h) = let both : None ≡ Some (Read file off len) = sym bad ∙ starts.reads.command in absurd cc
-rank-none g v cpu file off len left starts none (has_page file' off' len' page at found there h) =
-    let same = same_tag file' off' len' file off len _ at.command starts.reads.command in
-    let bad : None ≡ Some page = sym none ∙ ap (λ q. page_of g.parts.cache q) (sym same) ∙ found in absurd cc
-rank-none g v cpu file off len left starts none (fills_own file' off' len' page at tagged h) = let bad : Start ≡ Fill page = sym starts.start ∙ at.phase_is in absurd cc
-rank-none g v cpu file off len left starts none (has_none file' off' len' at none' h) = h
-rank-none g v cpu file off len left starts none (has_lost file' off' len' page at found lost h) = omega (arith, h)
-rank-none g v cpu file off len left starts none (fills page phase h) = omega (arith, h)
+-- where it has its page, that is the one with the tag
+its_page : (g : GuestState) (v : StorageView) (cpu : ℕ) (op : Op) (lost : Bool) (tag : Tag) → Wants g cpu op tag → (has : HasItsPage g v cpu op lost) → page_of g.parts.cache tag ≡ Some has.page
+its_page g v cpu op lost tag wants has = ap (λ q. page_of g.parts.cache q) (one_tag g cpu op tag has.tag wants has.wants) ∙ has.found
 
--- one whose command's page is lost at least 4
-pub rank-lost : (g : GuestState) (v : StorageView) (cpu file off len page left : ℕ) → StartsReading g cpu file off len → page_of g.parts.cache (File file (off / PAGE)) ≡ Some page
-    → is_lost (v.values page).contents ≡ true → Rank g v cpu left → 4 ≤ left
-rank-lost g v cpu file off len page left starts found lost (no_command bad h) = let both : None ≡ Some (Read file off len) = sym bad ∙ starts.reads.command in absurd cc
-rank-lost g v cpu file off len page left starts found lost (has_page file' off' len' page' at found' there h) =
-    let same = same_tag file' off' len' file off len _ at.command starts.reads.command in
-    let both : Some page' ≡ Some page = sym found' ∙ ap (λ q. page_of g.parts.cache q) same ∙ found in
-    let pages : page' ≡ page = cc in
-    let bad : true ≡ false = sym lost ∙ ap (λ q. is_lost (v.values q).contents) (sym pages) ∙ there in absurd cc
-rank-lost g v cpu file off len page left starts found lost (fills_own file' off' len' page' at tagged h) = let bad : Start ≡ Fill page' = sym starts.start ∙ at.phase_is in absurd cc
-rank-lost g v cpu file off len page left starts found lost (has_none file' off' len' at none h) =
-    let same = same_tag file' off' len' file off len _ at.command starts.reads.command in
-    let bad : None ≡ Some page = sym none ∙ ap (λ q. page_of g.parts.cache q) same ∙ found in absurd cc
-rank-lost g v cpu file off len page left starts found lost (has_lost file' off' len' page' at found' lost' h) = h
-rank-lost g v cpu file off len page left starts found lost (fills page' phase h) = omega (arith, h)
+not_none : (g : GuestState) (v : StorageView) (cpu : ℕ) (op : Op) (lost : Bool) (tag : Tag) → Wants g cpu op tag → page_of g.parts.cache tag ≡ None → HasItsPage g v cpu op lost → ⊥
+not_none g v cpu op lost tag wants none has = let bad : None ≡ Some has.page = sym none ∙ its_page g v cpu op lost tag wants has in cc
 
--- and one that fills a page at least 2, where that is its command's page, and 5 otherwise
-pub rank-fills : (g : GuestState) (v : StorageView) (cpu file off len page left : ℕ) → Reads g cpu file off len → (processor_at g cpu).phase ≡ Fill page → Rank g v cpu left
-    → (((info_at g.parts.pages page).tag ≡ Some (File file (off / PAGE))) × (2 ≤ left)) ⊎ (5 ≤ left)
-rank-fills g v cpu file off len page left reads phase (no_command bad h) = let both : None ≡ Some (Read file off len) = sym bad ∙ reads.command in absurd cc
-rank-fills g v cpu file off len page left reads phase (has_page file' off' len' page' at found there h) = let bad : Start ≡ Fill page = sym at.phase_is ∙ phase in absurd cc
-rank-fills g v cpu file off len page left reads phase (fills_own file' off' len' page' at tagged h) =
-    let same = same_tag file' off' len' file off len _ at.command reads.command in
-    let both : Fill page ≡ Fill page' = sym phase ∙ at.phase_is in
+not_lost : (g : GuestState) (v : StorageView) (cpu : ℕ) (op : Op) (tag : Tag) (page : ℕ) → Wants g cpu op tag → page_of g.parts.cache tag ≡ Some page → is_lost (v.values page).contents ≡ true
+    → HasItsPage g v cpu op false → ⊥
+not_lost g v cpu op tag page wants found lost has =
+    let both : Some has.page ≡ Some page = sym (its_page g v cpu op false tag wants has) ∙ found in
+    let same : has.page ≡ page = cc in
+    let bad : true ≡ false = sym lost ∙ ap (λ q. is_lost (v.values q).contents) (sym same) ∙ has.lost_is in cc
+
+starts_not_fills : (g : GuestState) (cpu page : ℕ) → (processor_at g cpu).phase ≡ Start → (processor_at g cpu).phase ≡ Fill page → ⊥
+starts_not_fills g cpu page start fill = let bad : Start ≡ Fill page = sym start ∙ fill in cc
+
+wants_not_none : (g : GuestState) (cpu : ℕ) (op : Op) (tag : Tag) → Wants g cpu op tag → wanted_tag g.parts (process_of g.plan cpu) op ≡ None → ⊥
+wants_not_none g cpu op tag wants none = let bad : None ≡ Some tag = sym none ∙ wants in cc
+
+-- a processor whose command's page is wanting has at least 4 turns left
+pub rank-none : (g : GuestState) (v : StorageView) (cpu : ℕ) (op : Op) (tag : Tag) (left : ℕ) → (processor_at g cpu).phase ≡ Start → Wants g cpu op tag → page_of g.parts.cache tag ≡ None
+    → OpRank g v cpu op left → 4 ≤ left
+rank-none g v cpu op tag left start wants none (no_tag start' bad h) = absurd (wants_not_none g cpu op tag wants bad)
+rank-none g v cpu op tag left start wants none (served has is h) = absurd (not_none g v cpu op false tag wants none has)
+rank-none g v cpu op tag left start wants none (has_page has h) = absurd (not_none g v cpu op false tag wants none has)
+rank-none g v cpu op tag left start wants none (fills_own page tag' phase wants' tagged h) = absurd (starts_not_fills g cpu page start phase)
+rank-none g v cpu op tag left start wants none (has_none tag' start' wants' none' h) = h
+rank-none g v cpu op tag left start wants none (has_lost has h) = omega (arith, h)
+rank-none g v cpu op tag left start wants none (fills page phase h) = omega (arith, h)
+
+-- one whose command's page is lost at least 5
+pub rank-lost : (g : GuestState) (v : StorageView) (cpu : ℕ) (op : Op) (tag : Tag) (page left : ℕ) → (processor_at g cpu).phase ≡ Start → Wants g cpu op tag → page_of g.parts.cache tag ≡ Some page
+    → is_lost (v.values page).contents ≡ true → OpRank g v cpu op left → 5 ≤ left
+rank-lost g v cpu op tag page left start wants found lost (no_tag start' bad h) = absurd (wants_not_none g cpu op tag wants bad)
+rank-lost g v cpu op tag page left start wants found lost (served has is h) = absurd (not_lost g v cpu op tag page wants found lost has)
+rank-lost g v cpu op tag page left start wants found lost (has_page has h) = absurd (not_lost g v cpu op tag page wants found lost has)
+rank-lost g v cpu op tag page left start wants found lost (fills_own page' tag' phase wants' tagged h) = absurd (starts_not_fills g cpu page' start phase)
+rank-lost g v cpu op tag page left start wants found lost (has_none tag' start' wants' none h) =
+    let bad : None ≡ Some page = sym none ∙ ap (λ q. page_of g.parts.cache q) (one_tag g cpu op tag' tag wants' wants) ∙ found in absurd cc
+rank-lost g v cpu op tag page left start wants found lost (has_lost has h) = h
+rank-lost g v cpu op tag page left start wants found lost (fills page' phase h) = omega (arith, h)
+
+-- a load or store goes through one slot, at one offset
+record SamePlace (writes writes' : Bool) (slot slot' off off' : ℕ) : Type 0 where
+  writes_is : writes ≡ writes'
+  slot_is : slot ≡ slot'
+  off_is : off ≡ off'
+
+same_place : (g : GuestState) (cpu : ℕ) (op : Op) (writes writes' : Bool) (slot slot' off off' : ℕ) → Maps g cpu op writes slot off → Maps g cpu op writes' slot' off' → SamePlace writes writes' slot slot' off off'
+same_place g cpu (Load number at len) writes writes' slot slot' off off' (a, b, c) (a', b', c') = record {
+  writes_is = a ∙ sym a';
+  slot_is = let both : Some slot ≡ Some slot' = sym b ∙ b' in cc;
+  off_is = c ∙ sym c';
+}
+same_place g cpu (Store number at bytes) writes writes' slot slot' off off' (a, b, c) (a', b', c') = record {
+  writes_is = a ∙ sym a';
+  slot_is = let both : Some slot ≡ Some slot' = sym b ∙ b' in cc;
+  off_is = c ∙ sym c';
+}
+same_place g cpu op writes writes' slot slot' off off' maps maps' = absurd maps
+
+-- an entry that serves isn't to be set
+not_served : (pte : Pte) (writes : Bool) → (writes ≡ true → pte.writable ≡ true) → CanBeSet (Some pte) writes → ⊥
+not_served pte writes allows (stores, readonly) = let bad : true ≡ false = sym (allows stores) ∙ readonly in cc
+
+can_not_serve : (g : GuestState) (cpu : ℕ) (op : Op) (writes : Bool) (slot off : ℕ) → Maps g cpu op writes slot off → CanBeSet (entry_at g.parts.maps slot (off / PAGE)) writes → IsServed g cpu op → ⊥
+can_not_serve g cpu op writes slot off maps can is =
+    let same = same_place g cpu op writes is.writes slot is.slot off is.off maps is.maps in
+    let here : CanBeSet (entry_at g.parts.maps is.slot (is.off / PAGE)) is.writes =
+    subst (λ q. CanBeSet (entry_at g.parts.maps is.slot (is.off / PAGE)) q) same.writes_is
+    (subst (λ q. CanBeSet (entry_at g.parts.maps is.slot (q / PAGE)) writes) same.off_is (subst (λ q. CanBeSet (entry_at g.parts.maps q (off / PAGE)) writes) same.slot_is can)) in
+    not_served is.pte is.writes is.allows (subst (λ q. CanBeSet q is.writes) is.at here)
+
+-- one whose entry is to be set has at least 2
+pub rank-unserved : (g : GuestState) (v : StorageView) (cpu : ℕ) (op : Op) (tag : Tag) (writes : Bool) (slot off left : ℕ) → Wants g cpu op tag → Maps g cpu op writes slot off
+    → CanBeSet (entry_at g.parts.maps slot (off / PAGE)) writes → OpRank g v cpu op left → 2 ≤ left
+rank-unserved g v cpu op tag writes slot off left wants maps can (no_tag start' bad h) = absurd (wants_not_none g cpu op tag wants bad)
+rank-unserved g v cpu op tag writes slot off left wants maps can (served has is h) = absurd (can_not_serve g cpu op writes slot off maps can is)
+rank-unserved g v cpu op tag writes slot off left wants maps can (has_page has h) = h
+rank-unserved g v cpu op tag writes slot off left wants maps can (fills_own page tag' phase wants' tagged h) = omega (arith, h)
+rank-unserved g v cpu op tag writes slot off left wants maps can (has_none tag' start' wants' none h) = omega (arith, h)
+rank-unserved g v cpu op tag writes slot off left wants maps can (has_lost has h) = omega (arith, h)
+rank-unserved g v cpu op tag writes slot off left wants maps can (fills page phase h) = omega (arith, h)
+
+-- and one that fills a page at least 3, where that is its command's page, and 6 otherwise
+pub rank-fills : (g : GuestState) (v : StorageView) (cpu : ℕ) (op : Op) (page left : ℕ) → (processor_at g cpu).phase ≡ Fill page → OpRank g v cpu op left
+    → ((tag : Tag) × Wants g cpu op tag × ((info_at g.parts.pages page).tag ≡ Some tag) × (3 ≤ left)) ⊎ (6 ≤ left)
+rank-fills g v cpu op page left phase (no_tag start bad h) = absurd (starts_not_fills g cpu page start phase)
+rank-fills g v cpu op page left phase (served has is h) = absurd (starts_not_fills g cpu page has.start phase)
+rank-fills g v cpu op page left phase (has_page has h) = absurd (starts_not_fills g cpu page has.start phase)
+rank-fills g v cpu op page left phase (fills_own page' tag phase' wants tagged h) =
+    let both : Fill page ≡ Fill page' = sym phase ∙ phase' in
     let pages : page ≡ page' = cc in
-    inl (ap (λ q. (info_at g.parts.pages q).tag) pages ∙ tagged ∙ ap Some same, h)
-rank-fills g v cpu file off len page left reads phase (has_none file' off' len' at none h) = let bad : Start ≡ Fill page = sym at.phase_is ∙ phase in absurd cc
-rank-fills g v cpu file off len page left reads phase (has_lost file' off' len' page' at found lost h) = let bad : Start ≡ Fill page = sym at.phase_is ∙ phase in absurd cc
-rank-fills g v cpu file off len page left reads phase (fills page' phase' h) = inr h
+    inl (tag, wants, ap (λ q. (info_at g.parts.pages q).tag) pages ∙ tagged, h)
+rank-fills g v cpu op page left phase (has_none tag start wants none h) = absurd (starts_not_fills g cpu page start phase)
+rank-fills g v cpu op page left phase (has_lost has h) = absurd (starts_not_fills g cpu page has.start phase)
+rank-fills g v cpu op page left phase (fills page' phase' h) = inr h

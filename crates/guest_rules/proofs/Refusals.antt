@@ -1,18 +1,30 @@
--- The tables refuse what the flat machine refuses, and what is read of a page is what the flat machine reads.
-use Rattle.std.proofs.Common.{◌≡◌, ◌≤◌, ◌+◌, ◌*◌, ◌/◌, ◌%◌, ◌&&◌, not, nat_lt, nat_le, if◌then◌else◌, ℕ, zero, suc, Bool, true, false, List, [], ◌∷◌, map, length, get_or, take, drop, Option, Some, None, refl, ap, sym, ◌∙◌, arith}
-use Rattle.std.proofs.lemmas.List.{length-map}
+-- The tables refuse what the flat machine refuses.
+use Rattle.std.proofs.Common.{◌≡◌, ◌≤◌, ◌+◌, ◌*◌, ◌/◌, ◌%◌, ◌&&◌, not, nat_lt, nat_le, if◌then◌else◌, ℕ, zero, suc, Bool, true, false, List, [], ◌∷◌, map, length, get_or, take, drop, Option, Some, None, is_some, refl, ap, sym, ◌∙◌, arith}
+use Rattle.std.specs.FinMap as finite
+use Rattle.std.proofs.lemmas.List.{length-map, length-replicate}
 use Rattle.cmm_types.specs.declared.page.TheConstants.{PAGE}
+use Rattle.cmm_types.specs.declared.plan.TheConstants.{MAX_LIVE_MAPPINGS}
 use Rattle.cmm_types.specs.declared.plan.FilePlan.{FilePlan}
-use Rattle.cmm_types.specs.declared.command.Op.TheVariants.{Read}
+use Rattle.cmm_types.specs.declared.command.Op.{Op}
+use Rattle.cmm_types.specs.declared.command.Op.TheVariants.{Read, MapFile, Load, Store}
 use Rattle.cmm_types.specs.declared.command.FlatRefusal.{FlatRefusal}
-use Rattle.cmm_types.specs.declared.command.FlatRefusal.TheVariants.{OutOfRange}
+use Rattle.cmm_types.specs.declared.command.FlatRefusal.TheVariants.{NoMapping, AlreadyMapped, OutOfRange, ReadOnly, TooManyMaps}
+use Rattle.cmm_flat.specs.declared.mapping.Mapping.{Mapping}
 use Rattle.cmm_flat.specs.Bytes.{bytes_at}
 use Rattle.cmm_flat.specs.RangeLaws.{bytes_at-bytes_at}
+use Rattle.cmm_flat.specs.Mapping.{is_writable as flat_writable}
 use Rattle.cmm_flat.specs.State.{FlatState, file_at}
-use Rattle.cmm_flat.specs.Flat.{in_file, first_of, refusal_of}
+use Rattle.cmm_flat.specs.Flat.{in_file, in_mapping, of_live, first_of, refusal_of}
 use Rattle.cmm_flat.specs.FlatLaws.{length-file_at}
+use Rattle.guest_maps.specs.declared.slot.Shown.{Shown}
+use Rattle.guest_maps.specs.declared.slot.Shown.TheVariants.{File, Anon}
+use Rattle.guest_maps.specs.declared.slot.Slot.{Slot}
+use Rattle.guest_maps.specs.MapsView.{MapsView, find_slot, live_slots, is_writable}
 use Rattle.guest_rules.specs.GuestState.{GuestState}
-use Rattle.guest_rules.specs.Turns.{file_pages, has_bytes, refusal_in}
+use Rattle.guest_rules.specs.Built.{IsBuiltOp}
+use Rattle.guest_rules.specs.Turns.{file_pages, has_bytes, refusal_at, refusal_of_new, refusal_in}
+use Rattle.guest_rules.specs.Fit.{SlotsFit, flat_mapping, slot_found}
+use Rattle.guest_rules.proofs.MapsFound.{found_slot}
 
 -- the files have the planned sizes
 abbrev pub HasLengths : List (List ℕ) → List FilePlan → Type 0
@@ -33,20 +45,91 @@ pub in_file-has_bytes : (files : List (List ℕ)) (plans : List FilePlan) (file 
 in_file-has_bytes files plans file off len has =
     ap (λ n. nat_lt file n && nat_le (off + len) (length (file_at files file))) (length-files files plans has) ∙ ap (λ n. nat_lt file (length plans) && nat_le (off + len) n) (length-file files plans file has)
 
-either_way : (b : Bool) → first_of ((not b, OutOfRange) ∷ []) ≡ (if b then None else Some OutOfRange)
-either_way true = refl
-either_way false = refl
+-- reads
+abbrev read_refusal : Bool → Option FlatRefusal
+read_refusal within = first_of ((not within, OutOfRange) ∷ [])
 
--- a read is refused by the tables as the flat machine refuses it
-pub refusal-same : (flat : FlatState) (g : GuestState) (process file off len : ℕ) → HasLengths flat.files g.plan.files → refusal_of flat process (Read file off len) ≡ refusal_in g (Read file off len)
-refusal-same flat g process file off len has = either_way (in_file flat.files file off len) ∙ ap (λ b. let r : Option FlatRefusal = if b then None else Some OutOfRange in r) (in_file-has_bytes flat.files g.plan.files file off len has)
+read_same : (b : Bool) → read_refusal b ≡ (if b then None else Some OutOfRange)
+read_same true = refl
+read_same false = refl
 
-accepted_within : (b : Bool) → (if b then None else Some OutOfRange) ≡ None → b ≡ true
-accepted_within true e = refl
-accepted_within false e = cc
+-- loads and stores
+abbrev load_refusal : (off len : ℕ) → Option Mapping → Option FlatRefusal
+load_refusal off len mapping = first_of ((not (is_some mapping), NoMapping) ∷ (not (of_live (in_mapping off len) mapping), OutOfRange) ∷ [])
 
-pub accepted-has_bytes : (g : GuestState) (file off len : ℕ) → refusal_in g (Read file off len) ≡ None → has_bytes g.plan.files file off len ≡ true
-accepted-has_bytes g file off len e = accepted_within (has_bytes g.plan.files file off len) e
+abbrev store_refusal : (off len : ℕ) → Option Mapping → Option FlatRefusal
+store_refusal off len mapping =
+    first_of ((not (is_some mapping), NoMapping)
+    ∷ (not (of_live (in_mapping off len) mapping), OutOfRange)
+    ∷ (not (of_live (λ m. flat_writable m.shown) mapping), ReadOnly) ∷ [])
+
+-- a slot's mapping is as long and as writable as the flat machine's
+in_slot : (slot : Slot) (off len : ℕ) → of_live (in_mapping off len) (flat_mapping (Some slot)) ≡ nat_le (off + len) (PAGE * slot.count)
+in_slot slot off len = ap (λ n. nat_le (off + len) (PAGE * n)) (length-replicate {A = Bool} slot.count false)
+
+writable_shown : (process number : ℕ) (live : Bool) (shown : Shown) (count : ℕ)
+    → of_live (λ m. flat_writable m.shown) (flat_mapping (Some (record { process = process; map = number; live = live; shown = shown; count = count }))) ≡ is_writable shown
+writable_shown process number live (File file first writable) count = refl
+writable_shown process number live Anon count = refl
+
+two_tests : (b : Bool) → first_of ((not b, OutOfRange) ∷ []) ≡ (if b then (if false then Some ReadOnly else None) else Some OutOfRange)
+two_tests true = refl
+two_tests false = refl
+
+three_tests : (b c : Bool) → first_of ((not b, OutOfRange) ∷ (not c, ReadOnly) ∷ []) ≡ (if b then (if true && not c then Some ReadOnly else None) else Some OutOfRange)
+three_tests true true = refl
+three_tests true false = refl
+three_tests false true = refl
+three_tests false false = refl
+
+load_same : (maps : MapsView) (process number off len : ℕ) (o : Option ℕ) → find_slot maps process number ≡ o → load_refusal off len (flat_mapping (slot_found maps o)) ≡ refusal_at maps false off len o
+load_same maps process number off len None e = refl
+load_same maps process number off len (Some slot) e =
+    let found = found_slot maps process number slot e in
+    rw found.at (ap (λ b. first_of ((not b, OutOfRange) ∷ [])) (in_slot found.mapping off len) ∙ two_tests (nat_le (off + len) (PAGE * found.mapping.count)))
+
+store_same : (maps : MapsView) (process number off len : ℕ) (o : Option ℕ) → find_slot maps process number ≡ o → store_refusal off len (flat_mapping (slot_found maps o)) ≡ refusal_at maps true off len o
+store_same maps process number off len None e = refl
+store_same maps process number off len (Some slot) e =
+    let found = found_slot maps process number slot e in
+    let m = found.mapping in
+    let flat : Option Mapping = flat_mapping (Some m) in
+    rw found.at (
+    ap (λ b. first_of ((not b, OutOfRange) ∷ (not (of_live (λ q. flat_writable q.shown) flat), ReadOnly) ∷ [])) (in_slot m off len)
+    ∙ ap (λ c. first_of ((not (nat_le (off + len) (PAGE * m.count)), OutOfRange) ∷ (not c, ReadOnly) ∷ [])) (writable_shown m.process m.map m.live m.shown m.count)
+    ∙ three_tests (nat_le (off + len) (PAGE * m.count)) (is_writable m.shown)
+    )
+
+-- new mappings
+abbrev map_refusal : (live within full : Bool) → Option FlatRefusal
+map_refusal live within full = first_of ((live, AlreadyMapped) ∷ (not within, OutOfRange) ∷ (full, TooManyMaps) ∷ [])
+
+new_tests : (b c : Bool) → map_refusal false b c ≡ (if b then (if c then Some TooManyMaps else None) else Some OutOfRange)
+new_tests true true = refl
+new_tests true false = refl
+new_tests false true = refl
+new_tests false false = refl
+
+map_same : (g : GuestState) (process number file first count : ℕ) (o : Option ℕ) → find_slot g.parts.maps process number ≡ o
+    → map_refusal (is_some (flat_mapping (slot_found g.parts.maps o))) (has_bytes g.plan.files file (PAGE * first) (PAGE * count)) (nat_le MAX_LIVE_MAPPINGS (live_slots g.parts.maps))
+    ≡ refusal_of_new g file first count o
+map_same g process number file first count None e = new_tests (has_bytes g.plan.files file (PAGE * first) (PAGE * count)) (nat_le MAX_LIVE_MAPPINGS (live_slots g.parts.maps))
+map_same g process number file first count (Some slot) e = let found = found_slot g.parts.maps process number slot e in rw found.at refl
+
+-- a built command is refused by the tables as the flat machine refuses it
+pub refusal-same : (flat : FlatState) (g : GuestState) (process : ℕ) (op : Op) → IsBuiltOp op → SlotsFit flat g.parts → HasLengths flat.files g.plan.files
+    → refusal_of flat process op ≡ refusal_in g process op
+refusal-same flat g process (Read file off len) built fits has = ap read_refusal (in_file-has_bytes flat.files g.plan.files file off len has) ∙ read_same (has_bytes g.plan.files file off len)
+refusal-same flat g process (MapFile number file first count writable) built fits has =
+    ap (λ m. map_refusal (is_some m) (in_file flat.files file (PAGE * first) (PAGE * count)) (nat_le MAX_LIVE_MAPPINGS (finite.len flat.mappings))) (fits.flat process number)
+    ∙ ap (λ b. map_refusal (is_some (flat_mapping (slot_found g.parts.maps (find_slot g.parts.maps process number)))) b (nat_le MAX_LIVE_MAPPINGS (finite.len flat.mappings))) (in_file-has_bytes flat.files g.plan.files file (PAGE * first) (PAGE * count) has)
+    ∙ ap (λ n. map_refusal (is_some (flat_mapping (slot_found g.parts.maps (find_slot g.parts.maps process number)))) (has_bytes g.plan.files file (PAGE * first) (PAGE * count)) (nat_le MAX_LIVE_MAPPINGS n)) fits.counted
+    ∙ map_same g process number file first count (find_slot g.parts.maps process number) refl
+refusal-same flat g process (Load number off len) built fits has =
+    ap (load_refusal off len) (fits.flat process number) ∙ load_same g.parts.maps process number off len (find_slot g.parts.maps process number) refl
+refusal-same flat g process (Store number off bytes) built fits has =
+    ap (store_refusal off (length bytes)) (fits.flat process number) ∙ store_same g.parts.maps process number off (length bytes) (find_slot g.parts.maps process number) refl
+refusal-same flat g process op built fits has = absurd built
 
 -- bytes of a page are the file's
 pub page-bytes : (all : List ℕ) (off len : ℕ) → off % PAGE + len ≤ PAGE → take len (drop (off % PAGE) (bytes_at all (PAGE * (off / PAGE)) PAGE)) ≡ bytes_at all off len

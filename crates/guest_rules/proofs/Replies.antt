@@ -1,9 +1,9 @@
--- Fit after each reply of a read.
-use Rattle.std.proofs.Common.{◌/◌, ◌%◌, true, false, Some, ◌≡◌, ◌<◌, ℕ, List, take, drop, length, ap, sym, ◌∙◌, subst}
+-- Fit after a reply: a refusal, the bytes of a read, a failure.
+use Rattle.std.proofs.Common.{◌≡◌, ◌/◌, ◌%◌, ℕ, List, take, drop, Some, refl, ap, sym, ◌∙◌, subst}
 use Rattle.cmm_types.specs.declared.page.TheConstants.{PAGE}
 use Rattle.cmm_types.specs.declared.page.Tag.TheVariants.{File}
 use Rattle.cmm_types.specs.declared.command.Op.{Op}
-use Rattle.cmm_types.specs.declared.command.Op.TheVariants.{Read}
+use Rattle.cmm_types.specs.declared.command.Op.TheVariants.{Read, Load, Store}
 use Rattle.cmm_types.specs.declared.command.Reply.{Reply}
 use Rattle.cmm_types.specs.declared.command.Reply.TheVariants.{Bytes as BytesReply, Refused, Fail}
 use Rattle.cmm_types.specs.declared.command.Cause.{Cause}
@@ -12,79 +12,74 @@ use Rattle.cmm_types.specs.declared.command.FlatRefusal.{FlatRefusal}
 use Rattle.cmm_io.specs.DiskView.{DiskView}
 use Rattle.cmm_flat.specs.Bytes.{bytes_at}
 use Rattle.cmm_flat.specs.State.{FlatState, file_at}
-use Rattle.cmm_flat.specs.Flat.{flat_step}
-use Rattle.cmm_flat.specs.StepLaws.{step_read, step_refused}
-use Rattle.cmm_flat.specs.Legal.{IsReply, process_of, command_of, flat_of, flat_after}
+use Rattle.cmm_flat.specs.Flat.{flat_step, refusal_of}
+use Rattle.cmm_flat.specs.StepLaws.{step_done, step_refused}
+use Rattle.cmm_flat.specs.Legal.{IsReply, CanFail, process_of, flat_of, flat_after}
 use Rattle.cmm_flat.specs.LegalLaws.{IsReply-from_step, flat_after-from_step}
-use Rattle.essa_state.specs.PageValue.{Bytes, is_lost}
+use Rattle.essa_state.specs.PageValue.{PageValue, Bytes, MayBecome}
 use Rattle.cmm_storage.specs.StorageView.{StorageView}
-use Rattle.guest_pages.specs.PagesView.{info_at}
+use Rattle.guest_rules.specs.declared.parts.Parts.{Parts}
 use Rattle.guest_rules.specs.declared.processor.Phase.TheVariants.{Start}
-use Rattle.guest_rules.specs.GuestState.{GuestState, processor_at, entered}
+use Rattle.guest_rules.specs.GuestState.{GuestState, processor_at, with_parts, entered}
 use Rattle.guest_rules.specs.Turns.{refusal_in}
-use Rattle.guest_rules.specs.Fit.{FitAt, Fit, backing}
-use Rattle.guest_rules.proofs.TurnCases.{Reads, StartsReading, HasPage, FillCause}
-use Rattle.guest_rules.proofs.FitChanged.{infos-pages}
-use Rattle.guest_rules.proofs.Currents.{FlatBacked, FlatBacked-from}
+use Rattle.guest_rules.specs.Fit.{FitAt, Fit, NeedsPage}
+use Rattle.guest_rules.proofs.TurnCases.{Has, Starts, HasPage, GivenBack, IsRehinted, FillCause}
+use Rattle.guest_rules.proofs.Commands.{command-built}
 use Rattle.guest_rules.proofs.FitEntered.{walk_at, Fit-entered}
-use Rattle.guest_rules.proofs.Refusals.{in_file-has_bytes, refusal-same, accepted-has_bytes, page-bytes}
-use Rattle.guest_rules.proofs.Ready.{in_range}
+use Rattle.guest_rules.proofs.Refusals.{refusal-same, page-bytes}
+use Rattle.guest_rules.proofs.WantedTags.{read-piece}
+use Rattle.guest_rules.proofs.FoundBytes.{found-bytes}
+use Rattle.guest_rules.proofs.StepTold.{Fit-rehinted}
 
--- the flat machine replies so, and stays as it is
-Fit-stepped : (g : GuestState) (v : StorageView) (d : DiskView) (cpu : ℕ) (op : Op) (reply : Reply) → Fit g v d → cpu < length g.processors → (processor_at g cpu).phase ≡ Start
-    → command_of g.plan cpu (processor_at g cpu).place ≡ Some op → flat_step (flat_of g.plan g.journal) (process_of g.plan cpu) op ≡ (flat_of g.plan g.journal, reply) → Fit (entered g cpu op reply) v d
-Fit-stepped g v d cpu op reply f below start command step =
+-- the flat machine replies so, and the guest fits the state that this leads to
+pub Fit-stepped : (g : GuestState) (v : StorageView) (d : DiskView) (cpu : ℕ) (op : Op) (reply : Reply) (later : FlatState) → FitAt later g v d → Has g cpu op → (processor_at g cpu).phase ≡ Start
+    → flat_step (flat_of g.plan g.journal) (process_of g.plan cpu) op ≡ (later, reply) → Fit (entered g cpu op reply) v d
+Fit-stepped g v d cpu op reply later f has start step =
     let flat = flat_of g.plan g.journal in
     let process = process_of g.plan cpu in
     let is : reply ≡ (flat_step flat process op).1 = sym (ap (λ (out : FlatState × Reply). out.1) step) in
-    let stays : flat_after flat process op reply ≡ flat = flat_after-from_step flat process op reply is ∙ ap (λ (out : FlatState × Reply). out.0) step in
-    Fit-entered g v d cpu op reply (subst (λ (state : FlatState). FitAt state g v d) (sym stays) f) below start command (IsReply-from_step g.plan (walk_at g) process op reply is)
+    let leads : flat_after flat process op reply ≡ later = flat_after-from_step flat process op reply is ∙ ap (λ (out : FlatState × Reply). out.0) step in
+    Fit-entered g v d cpu op reply (subst (λ (state : FlatState). FitAt state g v d) (sym leads) f) has.below start has.command (IsReply-from_step g.plan (walk_at g) process op reply is)
 
-pub Fit-refused : (g : GuestState) (v : StorageView) (d : DiskView) (cpu file off len : ℕ) (refusal : FlatRefusal) → Fit g v d → Reads g cpu file off len → (processor_at g cpu).phase ≡ Start
-    → refusal_in g (Read file off len) ≡ Some refusal → Fit (entered g cpu (Read file off len) (Refused refusal)) v d
-Fit-refused g v d cpu file off len refusal f reads start refused =
-    let flat = flat_of g.plan g.journal in
-    Fit-stepped g v d cpu (Read file off len) (Refused refusal) f reads.below start reads.command
-    (step_refused flat (process_of g.plan cpu) (Read file off len) refusal (refusal-same flat g (process_of g.plan cpu) file off len f.flat.lengths ∙ refused))
+-- the flat machine refuses as the tables do
+pub refused-same : (g : GuestState) (v : StorageView) (d : DiskView) (cpu : ℕ) (op : Op) → Fit g v d → Has g cpu op → refusal_of (flat_of g.plan g.journal) (process_of g.plan cpu) op ≡ refusal_in g (process_of g.plan cpu) op
+refused-same g v d cpu op f has = refusal-same (flat_of g.plan g.journal) g (process_of g.plan cpu) op (command-built g.plan cpu (processor_at g cpu).place op f.sizes.built has.command) f.slots f.flat.lengths
+
+pub Fit-refused : (g : GuestState) (v : StorageView) (d : DiskView) (cpu : ℕ) (op : Op) (refusal : FlatRefusal) → Fit g v d → Has g cpu op → (processor_at g cpu).phase ≡ Start
+    → refusal_in g (process_of g.plan cpu) op ≡ Some refusal → Fit (entered g cpu op (Refused refusal)) v d
+Fit-refused g v d cpu op refusal f has start refused =
+    Fit-stepped g v d cpu op (Refused refusal) (flat_of g.plan g.journal) f has start (step_refused (flat_of g.plan g.journal) (process_of g.plan cpu) op refusal (refused-same g v d cpu op f has ∙ refused))
 
 -- the bytes of the page that has the tag
-pub Fit-read : (g : GuestState) (v : StorageView) (d : DiskView) (cpu file off len page : ℕ) (all : List ℕ) → Fit g v d → StartsReading g cpu file off len → HasPage g (File file (off / PAGE)) page
-    → (v.values page).contents ≡ Bytes all → Fit (entered g cpu (Read file off len) (BytesReply (take len (drop (off % PAGE) all)))) v d
-Fit-read g v d cpu file off len page all f starts has bytes =
-    Fit-stepped g v d cpu (Read file off len) (BytesReply (take len (drop (off % PAGE) all))) f starts.reads.below starts.start starts.reads.command
-    (step_read flat (process_of g.plan cpu) file off len (in_file-has_bytes flat.files g.plan.files file off len f.flat.lengths ∙ accepted-has_bytes g file off len starts.accepted) ∙ ap (λ b. let out : FlatState × Reply = (flat, BytesReply b) in out) (sym same))
+pub Fit-read : (g : GuestState) (v : StorageView) (d : DiskView) (w : StorageView) (e : DiskView) (cpu file off len page : ℕ) (found : PageValue) (all : List ℕ) (after : Parts) → Fit g v d → Starts g cpu (Read file off len)
+    → HasPage g (File file (off / PAGE)) page → GivenBack page v d w e → MayBecome (v.values page) found → found.contents ≡ Bytes all → IsRehinted g.parts page found after (w.values page)
+    → Fit (entered (with_parts g after) cpu (Read file off len) (BytesReply (take len (drop (off % PAGE) all)))) w e
+Fit-read g v d w e cpu file off len page found all after f starts has back may are told =
+    Fit-stepped (with_parts g after) w e cpu (Read file off len) (BytesReply (take len (drop (off % PAGE) all))) flat (Fit-rehinted flat g v d w e page (File file (off / PAGE)) found after f has back may told)
+    (record { below = starts.has.below; command = starts.has.command }) starts.start
+    (step_done flat (process_of g.plan cpu) (Read file off len) (refused-same g v d cpu (Read file off len) f starts.has ∙ starts.accepted) ∙ ap (λ b. let out : FlatState × Reply = (flat, BytesReply b) in out) (sym same))
   where
     flat : FlatState
     flat = flat_of g.plan g.journal
 
-    below : page < v.pages
-    below = rw (infos-pages g v d f.sizes) at has.below
-
-    uptodate : (info_at g.parts.pages page).uptodate ≡ true
-    uptodate = f.locks.stale page (File file (off / PAGE)) has.tagged has.unlocked
-
-    there : is_lost (v.values page).contents ≡ false
-    there = ap is_lost bytes
-
-    all_is : all ≡ backing g.parts.cache d (File file (off / PAGE))
-    all_is =
-        let e : Bytes all ≡ Bytes (backing g.parts.cache d (File file (off / PAGE))) = sym bytes ∙ f.contents.same page (File file (off / PAGE)) below has.tagged uptodate (f.mappings.clean page) (f.mappings.unchanged page below) there in
-        cc
-
-    backed : FlatBacked flat g d
-    backed = FlatBacked-from flat g v d (infos-pages g v d f.sizes) f.pages f.mappings f.contents f.flat
-
     same : take len (drop (off % PAGE) all) ≡ bytes_at (file_at flat.files file) off len
     same =
-        ap (λ b. take len (drop (off % PAGE) b)) (all_is ∙ sym (backed.pages file (off / PAGE) (f.pages.indexed page (File file (off / PAGE)) has.tagged).0))
-        ∙ page-bytes (file_at flat.files file) off len (in_range flat g v d cpu (processor_at g cpu).place (Read file off len) f starts.reads.command).1.within_page
+        ap (λ b. take len (drop (off % PAGE) b))
+        (sym (found-bytes flat g v d page (File file (off / PAGE)) found all file (off / PAGE) f (record { tagged = has.tagged; uptodate = f.locks.stale page (File file (off / PAGE)) has.tagged has.unlocked; may = may; are = are }) refl))
+        ∙ page-bytes (file_at flat.files file) off len (read-piece g v d cpu file off len f.sizes starts.has).within_page
 
--- a read may fail by the disk or the pager
-failing : (g : GuestState) (cpu file off len : ℕ) (v : StorageView) (d : DiskView) (w : StorageView) (e : DiskView) (cause : Cause) → FillCause cause v d w e → IsReply g.plan (walk_at g) (process_of g.plan cpu) (Read file off len) (Fail cause)
-failing g cpu file off len v d w e Disk h = tt
-failing g cpu file off len v d w e Paging h = tt
-failing g cpu file off len v d w e (NoPage pinned unslotted) h = absurd h
+-- a command that needs a page may fail by the disk or the pager
+needs-fails : (op : Op) → NeedsPage op → CanFail op
+needs-fails (Read file off len) needs = tt
+needs-fails (Load number off len) needs = tt
+needs-fails (Store number off bytes) needs = tt
+needs-fails op needs = absurd needs
 
-pub Fit-failed : (g : GuestState) (v : StorageView) (d : DiskView) (w : StorageView) (e : DiskView) (x : StorageView) (y : DiskView) (cpu file off len : ℕ) (cause : Cause) → Fit g w e → Reads g cpu file off len
-    → (processor_at g cpu).phase ≡ Start → FillCause cause v d x y → Fit (entered g cpu (Read file off len) (Fail cause)) w e
-Fit-failed g v d w e x y cpu file off len cause f reads start risen = Fit-entered g w e cpu (Read file off len) (Fail cause) f reads.below start reads.command (failing g cpu file off len v d x y cause risen)
+failing : (g : GuestState) (cpu : ℕ) (op : Op) (v : StorageView) (d : DiskView) (w : StorageView) (e : DiskView) (cause : Cause) → NeedsPage op → FillCause cause v d w e → IsReply g.plan (walk_at g) (process_of g.plan cpu) op (Fail cause)
+failing g cpu op v d w e Disk needs h = needs-fails op needs
+failing g cpu op v d w e Paging needs h = needs-fails op needs
+failing g cpu op v d w e (NoPage pinned unslotted) needs h = absurd h
+
+pub Fit-failed : (g : GuestState) (v : StorageView) (d : DiskView) (w : StorageView) (e : DiskView) (x : StorageView) (y : DiskView) (cpu : ℕ) (op : Op) (cause : Cause) → Fit g w e → Has g cpu op → NeedsPage op
+    → (processor_at g cpu).phase ≡ Start → FillCause cause v d x y → Fit (entered g cpu op (Fail cause)) w e
+Fit-failed g v d w e x y cpu op cause f has needs start risen = Fit-entered g w e cpu op (Fail cause) f has.below start has.command (failing g cpu op v d x y cause needs risen)

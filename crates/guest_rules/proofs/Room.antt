@@ -64,7 +64,7 @@ placed state g v d other page (Some (File file index)) f full lt tagged =
     let k = f.pages.indexed page (File file index) tagged in
     record { below = before_within g.parts.cache.files file index k.0.0 k.0.1; entry = k.1 ∙ sym (entry_at (length g.parts.pages.infos) page lt) }
 placed state g v d other page (Some (Anon slot index)) f full lt tagged =
-    let k = f.mappings.of_files page (Anon slot index) tagged in
+    let k = f.pins.of_files page (Anon slot index) tagged in
     let bad : Anon slot index ≡ File k.0 k.1 = k.2 in absurd cc
 
 -- the files' pages are at most the guest's

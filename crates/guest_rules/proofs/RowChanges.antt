@@ -1,11 +1,12 @@
--- What each change of the tables leaves: a page begun, handled after a discard, freed after a failure, filled.
-use Rattle.std.proofs.Common.{◌≡◌, ◌<◌, ℕ, true, false, ◌∷◌, drop, length, Some, None, refl, ap, ◌∙◌}
+-- What each change of the tables leaves: a page begun, handled after a discard, freed after a failure, filled, found changed, shown by an entry.
+use Rattle.std.proofs.Common.{◌≡◌, ◌<◌, ◌+◌, ℕ, Bool, true, false, ◌∷◌, drop, length, Some, None, refl, ap, ◌∙◌}
 use Rattle.cmm_types.specs.declared.page.Tag.{Tag}
 use Rattle.guest_pages.specs.declared.info.PageInfo.{PageInfo}
-use Rattle.guest_pages.specs.PagesView.{PagesView, info_at, free_info, with_info, with_owner, with_uptodate, popped, pushed}
+use Rattle.guest_pages.specs.PagesView.{PagesView, info_at, free_info, with_info, with_owner, with_uptodate, with_dirty, with_writers, popped, pushed}
 use Rattle.guest_cache.specs.CacheView.{without_page}
 use Rattle.guest_rules.specs.declared.parts.Parts.{Parts}
-use Rattle.guest_rules.specs.Rows.{freed, filled}
+use Rattle.guest_maps.specs.MapsView.{with_entry, without_entries_of}
+use Rattle.guest_rules.specs.Rows.{freed, handled, filled, with_change, mapped, one_if}
 use Rattle.guest_rules.specs.Turns.{begun}
 use Rattle.guest_rules.proofs.Changes.{InfoChange, change-with_info, InfoChange-trans}
 
@@ -62,3 +63,60 @@ change-filled parts page below =
 pub filled-free : (parts : Parts) (page : ℕ) → (filled parts page).pages.free ≡ parts.pages.free
 unfolding with_owner with_uptodate with_info
 filled-free parts page = refl
+
+pub freed-maps : (parts : Parts) (page : ℕ) → (freed parts page).maps ≡ without_entries_of parts.maps page
+unfolding freed
+freed-maps parts page = refl
+
+pub handled-pages : (parts : Parts) (page : ℕ) → (handled parts page).pages ≡ (freed parts page).pages
+unfolding handled
+handled-pages parts page = refl
+
+pub handled-cache : (parts : Parts) (page : ℕ) → (handled parts page).cache ≡ (freed parts page).cache
+unfolding handled
+handled-cache parts page = refl
+
+pub handled-maps : (parts : Parts) (page : ℕ) → (handled parts page).maps ≡ (freed parts page).maps
+unfolding handled
+handled-maps parts page = refl
+
+-- a page whose change bit was set is dirty
+abbrev pub changed_info : Bool → PageInfo → PageInfo
+changed_info true info = record info { dirty = true }
+changed_info false info = info
+
+pub change-changed : (parts : Parts) (page : ℕ) (changed : Bool) → page < length parts.pages.infos → InfoChange parts.pages (with_change parts page changed).pages page (changed_info changed (info_at parts.pages page))
+unfolding with_dirty
+change-changed parts page true below = change-with_info parts.pages page (record (info_at parts.pages page) { dirty = true }) below
+change-changed parts page false below = record { size = refl; here = refl; others = λ i other. refl }
+
+-- what else the tables have is as it was
+pub record OnlyPages (old new : Parts) : Type 0 where
+  pub free : new.pages.free ≡ old.pages.free
+  pub cache : new.cache ≡ old.cache
+  pub faults : new.faults ≡ old.faults
+
+pub only-changed : (parts : Parts) (page : ℕ) (changed : Bool) → OnlyPages parts (with_change parts page changed)
+unfolding with_dirty with_info
+only-changed parts page true = record { free = refl; cache = refl; faults = refl }
+only-changed parts page false = record { free = refl; cache = refl; faults = refl }
+
+pub maps-changed : (parts : Parts) (page : ℕ) (changed : Bool) → (with_change parts page changed).maps ≡ parts.maps
+maps-changed parts page true = refl
+maps-changed parts page false = refl
+
+-- one entry more shows the page
+abbrev pub shown_info : Bool → PageInfo → PageInfo
+shown_info writes info = record info { writers = info.writers + one_if writes }
+
+pub change-mapped : (parts : Parts) (page slot index : ℕ) (writes : Bool) → page < length parts.pages.infos → InfoChange parts.pages (mapped parts page slot index writes).pages page (shown_info writes (info_at parts.pages page))
+unfolding mapped with_writers
+change-mapped parts page slot index writes below = change-with_info parts.pages page (shown_info writes (info_at parts.pages page)) below
+
+pub only-mapped : (parts : Parts) (page slot index : ℕ) (writes : Bool) → OnlyPages parts (mapped parts page slot index writes)
+unfolding mapped with_writers with_info
+only-mapped parts page slot index writes = record { free = refl; cache = refl; faults = refl }
+
+pub maps-mapped : (parts : Parts) (page slot index : ℕ) (writes : Bool) → (mapped parts page slot index writes).maps ≡ with_entry parts.maps slot index (Some (record { page = page; writable = writes }))
+unfolding mapped
+maps-mapped parts page slot index writes = refl

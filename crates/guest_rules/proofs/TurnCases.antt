@@ -1,26 +1,32 @@
 -- What a turn did, seen from its views: one case for each way through the table of turns.
-use Rattle.std.specs.Prelude.{◌≡◌, ◌<◌, ℕ, ◌/◌, ◌%◌, List, ◌∷◌, length, take, drop, true, false, Some, None}
+use Rattle.std.specs.Prelude.{◌≡◌, ◌<◌, ℕ, Bool, Option, ◌/◌, ◌%◌, List, ◌∷◌, length, take, drop, true, false, Some, None}
 use Rattle.cmm_types.specs.declared.page.TheConstants.{PAGE}
 use Rattle.cmm_types.specs.declared.page.Usage.TheVariants.{V}
 use Rattle.cmm_types.specs.declared.page.Tag.{Tag}
 use Rattle.cmm_types.specs.declared.page.Tag.TheVariants.{File}
-use Rattle.cmm_types.specs.declared.command.Op.TheVariants.{Read}
-use Rattle.cmm_types.specs.declared.command.Reply.TheVariants.{Bytes as BytesReply, Refused, Fail}
+use Rattle.cmm_types.specs.declared.command.Op.{Op}
+use Rattle.cmm_types.specs.declared.command.Op.TheVariants.{Read, MapFile, Load, Store}
+use Rattle.cmm_types.specs.declared.command.Reply.TheVariants.{Done, Bytes as BytesReply, Refused, Fail}
 use Rattle.cmm_types.specs.declared.command.Cause.{Cause}
 use Rattle.cmm_types.specs.declared.command.Cause.TheVariants.{Disk, Paging, NoPage}
 use Rattle.cmm_types.specs.declared.command.FlatRefusal.{FlatRefusal}
 use Rattle.cmm_types.specs.declared.turn.Turn.{Turn}
 use Rattle.cmm_types.specs.declared.turn.Turn.TheVariants.{Moved, Finished, Waits, Again, Idle}
 use Rattle.cmm_types.specs.declared.turn.Why.{Why}
-use Rattle.cmm_flat.specs.Legal.{command_of}
+use Rattle.cmm_flat.specs.Legal.{command_of, process_of}
 use Rattle.cmm_io.specs.Faults.{HasRisen}
 use Rattle.cmm_io.specs.DiskView.{DiskView}
 use Rattle.essa_state.specs.PageValue.{PageValue, Bytes, IsMadeUnused, MayBecome, made_stable, is_lost}
-use Rattle.cmm_storage.specs.StorageView.{StorageView, Keeps, Misses}
+use Rattle.cmm_storage.specs.StorageView.{StorageView, write_at, Keeps, Misses}
 use Rattle.guest_pages.specs.PagesView.{info_at}
 use Rattle.guest_cache.specs.CacheView.{page_of}
 use Rattle.guest_rules.specs.declared.processor.Phase.TheVariants.{Start, Fill}
-use Rattle.guest_rules.specs.Rows.{handled, freed, filled}
+use Rattle.guest_maps.specs.declared.slot.Pte.{Pte}
+use Rattle.guest_maps.specs.declared.slot.Shown.TheVariants.{File as OfFile}
+use Rattle.guest_maps.specs.MapsView.{find_slot, free_slot, entry_at, tag_at, with_mapping}
+use Rattle.guest_rules.specs.declared.parts.Parts.{Parts}
+use Rattle.guest_rules.specs.Hint.{hint}
+use Rattle.guest_rules.specs.Rows.{handled, freed, filled, with_change, mapped}
 use Rattle.guest_rules.specs.GuestState.{GuestState, processor_at, with_parts, with_phase, entered}
 use Rattle.guest_rules.specs.Turns.{refusal_in, begun}
 use Rattle.guest_rules.specs.Fit.{backing}
@@ -41,22 +47,59 @@ pub record AllMay (v : StorageView) (d : DiskView) (w : StorageView) (e : DiskVi
   pub count : e.count ≡ d.count
   pub blocks : e.blocks ≡ d.blocks
 
--- the processor reads these bytes in this phase
-pub record Reads (g : GuestState) (cpu file off len : ℕ) : Type 0 where
+-- the processor has this command
+pub record Has (g : GuestState) (cpu : ℕ) (op : Op) : Type 0 where
   pub below : cpu < length g.processors
-  pub command : command_of g.plan cpu (processor_at g cpu).place ≡ Some (Read file off len)
+  pub command : command_of g.plan cpu (processor_at g cpu).place ≡ Some op
 
 -- a processor in phase Start whose command isn't refused
-pub record StartsReading (g : GuestState) (cpu file off len : ℕ) : Type 0 where
-  pub reads : Reads g cpu file off len
+pub record Starts (g : GuestState) (cpu : ℕ) (op : Op) : Type 0 where
+  pub has : Has g cpu op
   pub start : (processor_at g cpu).phase ≡ Start
-  pub accepted : refusal_in g (Read file off len) ≡ None
+  pub accepted : refusal_in g (process_of g.plan cpu) op ≡ None
+
+abbrev pub tag_in : Parts → Option ℕ → ℕ → Option Tag
+tag_in parts None index = None
+tag_in parts (Some slot) index = tag_at parts.maps slot index
+
+-- the tag of the page that a command of a process needs
+abbrev pub wanted_tag : Parts → ℕ → Op → Option Tag
+wanted_tag parts process (Read file off len) = Some (File file (off / PAGE))
+wanted_tag parts process (Load number off len) = tag_in parts (find_slot parts.maps process number) (off / PAGE)
+wanted_tag parts process (Store number off bytes) = tag_in parts (find_slot parts.maps process number) (off / PAGE)
+wanted_tag parts process op = None
+
+abbrev pub Wants : GuestState → ℕ → Op → Tag → Type 0
+Wants g cpu op tag = wanted_tag g.parts (process_of g.plan cpu) op ≡ Some tag
+
+-- the command reads or loads so many bytes from this offset on
+abbrev pub Fetches : Op → ℕ → ℕ → Type 0
+Fetches (Read file off len) from count = (from ≡ off) × (count ≡ len)
+Fetches (Load number off len) from count = (from ≡ off) × (count ≡ len)
+Fetches op from count = ⊥
+
+-- the command loads or stores through this slot at this offset
+abbrev pub Maps : GuestState → ℕ → Op → (writes : Bool) → (slot off : ℕ) → Type 0
+Maps g cpu (Load number at len) writes slot off = (writes ≡ false) × (find_slot g.parts.maps (process_of g.plan cpu) number ≡ Some slot) × (off ≡ at)
+Maps g cpu (Store number at bytes) writes slot off = (writes ≡ true) × (find_slot g.parts.maps (process_of g.plan cpu) number ≡ Some slot) × (off ≡ at)
+Maps g cpu op writes slot off = ⊥
 
 -- the tag's page is unlocked
 pub record HasPage (g : GuestState) (tag : Tag) (page : ℕ) : Type 0 where
   pub below : page < length g.parts.pages.infos
   pub tagged : (info_at g.parts.pages page).tag ≡ Some tag
   pub unlocked : (info_at g.parts.pages page).owner ≡ None
+
+-- the page was found there, made stable, and its hint was told again: its change bit has moved into what is known of it
+pub record IsRehinted (parts : Parts) (page : ℕ) (found : PageValue) (after : Parts) (left : PageValue) : Type 0 where
+  pub there : is_lost found.contents ≡ false
+  pub tables : after ≡ with_change parts page found.changed
+  pub value : left ≡ record found { usage = hint (info_at after.pages page); changed = false }
+
+-- an entry is set where there is none, or for a store where there is one that doesn't allow it
+abbrev pub CanBeSet : Option Pte → (writes : Bool) → Type 0
+CanBeSet None writes = Unit {0}
+CanBeSet (Some pte) writes = (writes ≡ true) × (pte.writable ≡ false)
 
 -- the count that rose
 abbrev pub FillCause : Cause → StorageView → DiskView → StorageView → DiskView → Type 0
@@ -68,34 +111,60 @@ pub data TurnCase (g : GuestState) (cpu : ℕ) (v : StorageView) (d : DiskView) 
   -- no command is left
   was_idle : command_of g.plan cpu (processor_at g cpu).place ≡ None → h ≡ g → t ≡ Idle → w ≡ v → e ≡ d → TurnCase g cpu v d h t w e
   -- the command was refused
-  was_refused : (file off len : ℕ) (refusal : FlatRefusal) → Reads g cpu file off len → (processor_at g cpu).phase ≡ Start → refusal_in g (Read file off len) ≡ Some refusal
-      → h ≡ entered g cpu (Read file off len) (Refused refusal) → t ≡ Finished → w ≡ v → e ≡ d → TurnCase g cpu v d h t w e
+  was_refused : (op : Op) (refusal : FlatRefusal) → Has g cpu op → (processor_at g cpu).phase ≡ Start → refusal_in g (process_of g.plan cpu) op ≡ Some refusal
+      → h ≡ entered g cpu op (Refused refusal) → t ≡ Finished → w ≡ v → e ≡ d → TurnCase g cpu v d h t w e
+  -- a file was mapped
+  was_mapped : (number file first count : ℕ) (writable : Bool) (slot : ℕ) → Starts g cpu (MapFile number file first count writable) → free_slot g.parts.maps ≡ Some slot
+      → h ≡ entered (with_parts g (record g.parts { maps = with_mapping g.parts.maps slot (process_of g.plan cpu) number (OfFile file first writable) count })) cpu (MapFile number file first count writable) Done
+      → t ≡ Finished → w ≡ v → e ≡ d → TurnCase g cpu v d h t w e
   -- the page is locked
-  waited : (file off len page owner : ℕ) → StartsReading g cpu file off len → (info_at g.parts.pages page).owner ≡ Some owner
+  waited : (op : Op) (page owner : ℕ) → Starts g cpu op → (info_at g.parts.pages page).owner ≡ Some owner
       → h ≡ g → t ≡ Waits page owner → w ≡ v → e ≡ d → TurnCase g cpu v d h t w e
   -- the page was busy, or there was no frame, which a quiet storage never finds
-  missed : (why : Why) → h ≡ g → t ≡ Again why → AllMay v d w e → Misses v w → e ≡ d → TurnCase g cpu v d h t w e
+  missed : (op : Op) (why : Why) → Has g cpu op → h ≡ g → t ≡ Again why → AllMay v d w e → Misses v w → e ≡ d → TurnCase g cpu v d h t w e
+  -- the same where the page had been made stable
+  missed_rehinted : (why : Why) (op : Op) (tag : Tag) (page : ℕ) (found : PageValue) (after : Parts) → Starts g cpu op → Wants g cpu op tag → HasPage g tag page
+      → h ≡ with_parts g after → t ≡ Again why → GivenBack page v d w e → MayBecome (v.values page) found → IsRehinted g.parts page found after (w.values page)
+      → Misses v w → e ≡ d → TurnCase g cpu v d h t w e
   -- a free page got the tag
-  was_begun : (file off len page : ℕ) (rest : List ℕ) (found : PageValue) → StartsReading g cpu file off len → page_of g.parts.cache (File file (off / PAGE)) ≡ None
-      → g.parts.pages.free ≡ page ∷ rest → h ≡ with_phase (with_parts g (begun g.parts page (File file (off / PAGE)) cpu)) cpu (Fill page) → t ≡ Moved
+  was_begun : (op : Op) (tag : Tag) (page : ℕ) (rest : List ℕ) (found : PageValue) → Starts g cpu op → Wants g cpu op tag → page_of g.parts.cache tag ≡ None
+      → g.parts.pages.free ≡ page ∷ rest → h ≡ with_phase (with_parts g (begun g.parts page tag cpu)) cpu (Fill page) → t ≡ Moved
       → GivenBack page v d w e → MayBecome (v.values page) found → w.values page ≡ made_stable found → TurnCase g cpu v d h t w e
   -- the page had been discarded, over a quiet storage before this turn
-  was_gone : (file off len page : ℕ) (found : PageValue) → StartsReading g cpu file off len → HasPage g (File file (off / PAGE)) page
+  was_gone : (op : Op) (tag : Tag) (page : ℕ) (found : PageValue) → Starts g cpu op → Wants g cpu op tag → HasPage g tag page
       → h ≡ with_parts g (handled g.parts page) → t ≡ Moved → GivenBack page v d w e → MayBecome (v.values page) found → is_lost found.contents ≡ true
       → IsMadeUnused found (w.values page) → (v.quiet ≡ true → found ≡ v.values page) → TurnCase g cpu v d h t w e
   -- the bytes were read
-  was_read : (file off len page : ℕ) (all : List ℕ) → StartsReading g cpu file off len → HasPage g (File file (off / PAGE)) page
-      → (w.values page).contents ≡ Bytes all → h ≡ entered g cpu (Read file off len) (BytesReply (take len (drop (off % PAGE) all))) → t ≡ Finished
-      → AllMay v d w e → TurnCase g cpu v d h t w e
-  -- the pager failed
-  read_failed : (file off len : ℕ) → StartsReading g cpu file off len → h ≡ entered g cpu (Read file off len) (Fail Paging) → t ≡ Finished
+  was_read : (file off len page : ℕ) (found : PageValue) (all : List ℕ) (after : Parts) → Starts g cpu (Read file off len) → HasPage g (File file (off / PAGE)) page
+      → GivenBack page v d w e → MayBecome (v.values page) found → found.contents ≡ Bytes all → IsRehinted g.parts page found after (w.values page)
+      → h ≡ entered (with_parts g after) cpu (Read file off len) (BytesReply (take len (drop (off % PAGE) all))) → t ≡ Finished → TurnCase g cpu v d h t w e
+  -- the pager failed as the bytes were to be read
+  read_failed : (file off len page : ℕ) (found : PageValue) (after : Parts) → Starts g cpu (Read file off len) → HasPage g (File file (off / PAGE)) page
+      → GivenBack page v d w e → MayBecome (v.values page) found → IsRehinted g.parts page found after (w.values page)
+      → h ≡ entered (with_parts g after) cpu (Read file off len) (Fail Paging) → t ≡ Finished → HasRisen v.faults w.faults → TurnCase g cpu v d h t w e
+  -- the entry of a load or store was set
+  was_resolved : (op : Op) (tag : Tag) (writes : Bool) (slot off page : ℕ) (found : PageValue) (after : Parts) → Starts g cpu op → Wants g cpu op tag → Maps g cpu op writes slot off → HasPage g tag page
+      → CanBeSet (entry_at g.parts.maps slot (off / PAGE)) writes → GivenBack page v d w e → MayBecome (v.values page) found
+      → IsRehinted (mapped g.parts page slot (off / PAGE) writes) page found after (w.values page) → h ≡ with_parts g after → t ≡ Moved → TurnCase g cpu v d h t w e
+  -- bytes were loaded through an entry
+  was_loaded : (number off len slot page : ℕ) (writable : Bool) (all : List ℕ) → Starts g cpu (Load number off len) → find_slot g.parts.maps (process_of g.plan cpu) number ≡ Some slot
+      → entry_at g.parts.maps slot (off / PAGE) ≡ Some (record { page = page; writable = writable }) → (w.values page).contents ≡ Bytes all
+      → h ≡ entered g cpu (Load number off len) (BytesReply (take len (drop (off % PAGE) all))) → t ≡ Finished → AllMay v d w e → TurnCase g cpu v d h t w e
+  -- bytes were stored through an entry
+  was_stored : (number off : ℕ) (bytes : List ℕ) (slot page : ℕ) (found : PageValue) (all : List ℕ) → Starts g cpu (Store number off bytes)
+      → find_slot g.parts.maps (process_of g.plan cpu) number ≡ Some slot → entry_at g.parts.maps slot (off / PAGE) ≡ Some (record { page = page; writable = true })
+      → GivenBack page v d w e → MayBecome (v.values page) found → found.contents ≡ Bytes all
+      → w.values page ≡ record found { changed = true; contents = Bytes (write_at all (off % PAGE) bytes) }
+      → h ≡ entered g cpu (Store number off bytes) Done → t ≡ Finished → TurnCase g cpu v d h t w e
+  -- the pager failed as bytes were to be loaded or stored
+  entry_failed : (op : Op) (writes : Bool) (slot off : ℕ) → Starts g cpu op → Maps g cpu op writes slot off → h ≡ entered g cpu op (Fail Paging) → t ≡ Finished
       → AllMay v d w e → HasRisen v.faults w.faults → TurnCase g cpu v d h t w e
   -- the page couldn't be filled
-  fill_failed : (file off len page : ℕ) (cause : Cause) → Reads g cpu file off len → (processor_at g cpu).phase ≡ Fill page
-      → h ≡ entered (with_parts g (freed g.parts page)) cpu (Read file off len) (Fail cause) → t ≡ Finished → GivenBack page v d w e
+  fill_failed : (op : Op) (page : ℕ) (cause : Cause) → Has g cpu op → (processor_at g cpu).phase ≡ Fill page
+      → h ≡ entered (with_parts g (freed g.parts page)) cpu op (Fail cause) → t ≡ Finished → GivenBack page v d w e
       → IsMadeUnused (v.values page) (w.values page) → FillCause cause v d w e → TurnCase g cpu v d h t w e
   -- the page was filled
-  was_filled : (file off len page : ℕ) (tag : Tag) → Reads g cpu file off len → (processor_at g cpu).phase ≡ Fill page → (info_at g.parts.pages page).tag ≡ Some tag
+  was_filled : (op : Op) (page : ℕ) (tag : Tag) → Has g cpu op → (processor_at g cpu).phase ≡ Fill page → (info_at g.parts.pages page).tag ≡ Some tag
       → h ≡ with_phase (with_parts g (filled g.parts page)) cpu Start → t ≡ Moved → GivenBack page v d w e
       → w.values page ≡ record { usage = V; changed = false; contents = Bytes (backing g.parts.cache d tag); count = (v.values page).count }
       → TurnCase g cpu v d h t w e

@@ -13,7 +13,7 @@ use Rattle.guest_rules.specs.Fit.{Fit}
 use Rattle.guest_rules.specs.Cause.{TurnCause, AloneCause, NoWrongDiscard}
 use Rattle.guest_rules.proofs.Causes.{turn_causes}
 use Rattle.guest_rules.proofs.Discards.{turn_discards}
-use Rattle.guest_rules.proofs.Steps.{plan_kept}
+use Rattle.guest_rules.proofs.PlanKept.{plan_kept}
 use Rattle.guest_rules.proofs.Bound.{alone_causes}
 use Rattle.guest_rules.proofs.Inversion.{turn_case}
 use Rattle.guest_rules.proofs.FitTurn.{fit_turn}

@@ -1,24 +1,28 @@
 -- What a page's value is after the calls of a turn.
-use Rattle.std.specs.Prelude.{◌≡◌, ◌⊎◌, ℕ, List, length, Bool, true, false}
+use Rattle.std.specs.Prelude.{◌≡◌, ◌≢◌, ◌⊎◌, ℕ, List, length, Bool, true, false}
 use Rattle.std.proofs.Common.{arith}
 use Rattle.std.proofs.lemmas.Grind.{common_steps}
-use Rattle.cmm_types.specs.declared.page.Usage.TheVariants.{S, U, V}
+use Rattle.cmm_types.specs.declared.page.Usage.{Usage}
+use Rattle.cmm_types.specs.declared.page.Usage.TheVariants.{S, U}
 use Rattle.essa_state.specs.declared.orders.Order.TheVariants.{SetStableIf}
 use Rattle.essa_state.specs.PageValue.{PageValue, Contents, IsValue, StandsWith, OrderStep, LetsGo, MayBecome, is_lost, is_blank, made_stable}
 use Rattle.cmm_storage.specs.StorageView.{touched_contents, write_at}
 
 -- a page that isn't blank is let go without a discard
-pub let_go : (x y : PageValue) (was_done : Bool) → is_blank x.contents ≡ false → LetsGo x V was_done y → y ≡ record x { usage = V }
-let_go x y was_done h step = grind arith
+pub let_go : (x y : PageValue) (usage : Usage) (was_done : Bool) → is_blank x.contents ≡ false → LetsGo x usage was_done y → y ≡ record x { usage = usage }
+let_go x y usage was_done h step = grind arith
 
 -- a page is made stable exactly where it isn't lost
 pub stable_if : (x y : PageValue) (was_done : Bool) → OrderStep x SetStableIf was_done y
     → ((is_lost x.contents ≡ true) × (was_done ≡ false) × (y ≡ x)) ⊎ ((is_lost x.contents ≡ false) × (was_done ≡ true) × (y ≡ record x { usage = S }))
 stable_if x y was_done step = grind arith
 
--- the host leaves a volatile page as it was, or discards it
-pub may_volatile : (x y : PageValue) → x.usage ≡ V → MayBecome x y → is_lost y.contents ≡ false → y ≡ x
-may_volatile x y h may there = grind arith
+-- the host leaves a used page as it was, or discards it
+pub may_used : (x y : PageValue) → x.usage ≢ U → MayBecome x y → is_lost y.contents ≡ false → y ≡ x
+may_used x y used may there = grind arith
+
+pub filled_may : (x y : PageValue) → x.usage ≢ U → MayBecome x y → is_blank x.contents ≡ false → is_blank y.contents ≡ false
+filled_may x y used may filled = grind arith
 
 -- and a stable page as it was
 pub may_stable : (x y : PageValue) → x.usage ≡ S → MayBecome x y → y ≡ x

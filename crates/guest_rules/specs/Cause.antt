@@ -1,10 +1,14 @@
 -- Why a turn answered as it did.
-use Rattle.std.specs.Prelude.{◌≡◌, ◌≢◌, ◌⊎◌, ◌<◌, ◌≤◌, ℕ, ◌+◌, ◌++◌, [], ◌∷◌, true, Some, None}
+use Rattle.std.specs.Prelude.{◌≡◌, ◌≢◌, ◌⊎◌, ◌<◌, ◌≤◌, ℕ, Bool, List, length, ◌/◌, ◌%◌, ◌+◌, ◌++◌, [], ◌∷◌, true, false, Some, None}
 use Rattle.cmm_types.specs.declared.turn.Turn.{Turn}
 use Rattle.cmm_types.specs.declared.turn.Turn.TheVariants.{Moved, Finished, Waits, Again, Idle}
 use Rattle.cmm_types.specs.declared.turn.Alone.{Alone}
 use Rattle.cmm_types.specs.declared.turn.Alone.TheVariants.{Finished as AloneFinished, Waits as AloneWaits, Idle as AloneIdle}
+use Rattle.cmm_types.specs.declared.page.TheConstants.{PAGE}
 use Rattle.cmm_types.specs.declared.command.Op.{Op}
+use Rattle.cmm_types.specs.declared.command.Op.TheVariants.{Load, Store}
+use Rattle.cmm_flat.specs.Bytes.{bytes_at}
+use Rattle.guest_maps.specs.MapsView.{find_slot, entry_at}
 use Rattle.cmm_types.specs.declared.command.Reply.{Reply}
 use Rattle.cmm_types.specs.declared.command.Reply.TheVariants.{Done, Bytes, Refused, Fail}
 use Rattle.cmm_types.specs.declared.command.Cause.TheVariants.{Disk, Paging, NoPage}
@@ -12,11 +16,12 @@ use Rattle.cmm_io.specs.Faults.{HasRisen}
 use Rattle.cmm_io.specs.DiskView.{DiskView}
 use Rattle.cmm_flat.specs.Legal.{command_of, process_of, flat_of}
 use Rattle.cmm_flat.specs.Flat.{refusal_of}
-use Rattle.essa_state.specs.PageValue.{is_lost, may_lose}
+use Rattle.essa_state.specs.PageValue.{Bytes as BytesOf, is_lost, may_lose}
 use Rattle.cmm_storage.specs.StorageView.{StorageView}
 use Rattle.guest_pages.specs.PagesView.{info_at}
 use Rattle.guest_rules.specs.declared.processor.Phase.TheVariants.{Start}
-use Rattle.guest_rules.specs.GuestState.{GuestState, processor_at}
+use Rattle.guest_rules.specs.GuestState.{GuestState, processor_at, with_parts}
+use Rattle.guest_rules.specs.Rows.{dirtied}
 use Rattle.guest_rules.specs.Alone.{most_turns}
 
 -- what a reply rests on: a failure on a rise of its count, a refusal on the flat machine in the state that the journal leads to
@@ -28,6 +33,28 @@ ReplyCause g cpu op v d (Fail Disk) w e = HasRisen d.faults e.faults
 ReplyCause g cpu op v d (Fail Paging) w e = HasRisen v.faults w.faults
 ReplyCause g cpu op v d (Fail (NoPage pinned unslotted)) w e = ⊥
 
+-- an entry of a process's mapping shows a page that is up to date
+pub record IsShown (h : GuestState) (process number off : ℕ) (writes : Bool) (page : ℕ) : Type 0 where
+  pub slot : ℕ
+  pub writable : Bool
+  pub found : find_slot h.parts.maps process number ≡ Some slot
+  pub entry : entry_at h.parts.maps slot (off / PAGE) ≡ Some (record { page = page; writable = writable })
+  pub allows : writes ≡ true → writable ≡ true
+  pub uptodate : (info_at h.parts.pages page).uptodate ≡ true
+
+-- a page was stored to: it is changed, and has the bytes at the offset
+pub record IsStored (w : StorageView) (page off : ℕ) (bytes : List ℕ) : Type 0 where
+  pub changed : (w.values page).changed ≡ true
+  pub all : List ℕ
+  pub are : (w.values page).contents ≡ BytesOf all
+  pub there : bytes_at all (off % PAGE) (length bytes) ≡ bytes
+
+-- what stands after the reply to a load or store that was neither refused nor failed
+abbrev pub HasShown : GuestState → (process : ℕ) → Op → Reply → StorageView → Type 0
+HasShown h process (Load number off len) (Bytes bytes) w = (page : ℕ) × IsShown h process number off false page
+HasShown h process (Store number off bytes) Done w = (page : ℕ) × IsShown h process number off true page × IsStored w page off bytes
+HasShown h process op reply w = Unit {0}
+
 -- a command was finished: its entry stands in the journal, and the processor goes on to the next
 pub record HasFinished (g : GuestState) (v : StorageView) (d : DiskView) (cpu : ℕ) (h : GuestState) (w : StorageView) (e : DiskView) : Type 0 where
   pub op : Op
@@ -36,6 +63,7 @@ pub record HasFinished (g : GuestState) (v : StorageView) (d : DiskView) (cpu : 
   pub entry : h.journal ≡ g.journal ++ record { cpu = cpu; k = (processor_at g cpu).place; op = op; reply = reply } ∷ []
   pub next : processor_at h cpu ≡ record { place = (processor_at g cpu).place + 1; phase = Start }
   pub cause : ReplyCause g cpu op v d reply w e
+  pub shown : HasShown h (process_of g.plan cpu) op reply w
 
 -- a command went on: neither the journal nor the place changed
 pub record HasMoved (g : GuestState) (cpu : ℕ) (h : GuestState) : Type 0 where
@@ -46,14 +74,20 @@ pub record HasMoved (g : GuestState) (cpu : ℕ) (h : GuestState) : Type 0 where
 -- the page is locked by that other processor
 pub record WaitsFor (g : GuestState) (cpu page owner : ℕ) : Type 0 where
   pub locked : (info_at g.parts.pages page).owner ≡ Some owner
+  pub command : (op : Op) × (command_of g.plan cpu (processor_at g cpu).place ≡ Some op)
   pub other : owner ≢ cpu
+
+-- the turn has to be taken again: neither the journal nor the place and phase changed, and of the tables at most that a page was found changed
+pub record HasToWait (g : GuestState) (cpu : ℕ) (h : GuestState) : Type 0 where
+  pub tables : (h ≡ g) ⊎ ((page : ℕ) × (h ≡ with_parts g (dirtied g.parts page)))
+  pub command : (op : Op) × (command_of g.plan cpu (processor_at g cpu).place ≡ Some op)
 
 -- why a turn answered so, and what it left as it was
 abbrev pub TurnCause : GuestState → StorageView → DiskView → ℕ → Turn → GuestState → StorageView → DiskView → Type 0
 TurnCause g v d cpu Moved h w e = HasMoved g cpu h
 TurnCause g v d cpu Finished h w e = HasFinished g v d cpu h w e
 TurnCause g v d cpu (Waits page owner) h w e = (h ≡ g) × (w ≡ v) × (e ≡ d) × WaitsFor g cpu page owner
-TurnCause g v d cpu (Again why) h w e = (h ≡ g) × (e ≡ d) × HasRisen v.misses w.misses
+TurnCause g v d cpu (Again why) h w e = HasToWait g cpu h × (e ≡ d) × HasRisen v.misses w.misses
 TurnCause g v d cpu Idle h w e = (h ≡ g) × (w ≡ v) × (e ≡ d) × (command_of g.plan cpu (processor_at g cpu).place ≡ None)
 
 -- a page that is discarded after a turn was discarded before, or was volatile, or potentially volatile and unchanged

@@ -7,22 +7,33 @@ use Rattle.cmm_types.specs.declared.page.Tag.{Tag}
 use Rattle.cmm_types.specs.declared.page.Tag.TheVariants.{File}
 use Rattle.cmm_types.specs.declared.plan.TheConstants.{MAX_MAPPING_SLOTS}
 use Rattle.cmm_types.specs.declared.command.TheConstants.{MAX_MAPPING_PAGES}
-use Rattle.cmm_types.specs.declared.command.Op.TheVariants.{Read}
+use Rattle.cmm_types.specs.declared.command.Op.{Op}
+use Rattle.cmm_types.specs.declared.command.Op.TheVariants.{Read, Load, Store}
 use Rattle.cmm_types.specs.declared.plan.CpuPlan.{CpuPlan}
 use Rattle.cmm_types.specs.declared.plan.GuestPlan.{GuestPlan}
 use Rattle.cmm_types.specs.InRange.{GuestInRange, blocks_of}
-use Rattle.cmm_flat.specs.Bytes.{bytes_at}
-use Rattle.cmm_flat.specs.State.{FlatState, file_at}
+use Rattle.cmm_flat.specs.declared.mapping.Mapping.{Mapping}
+use Rattle.cmm_flat.specs.declared.mapping.Shown.{Shown as FlatShown}
+use Rattle.cmm_flat.specs.declared.mapping.Shown.TheVariants.{OfFile as FlatFile, Anonymous}
+use Rattle.cmm_flat.specs.Flat.{none_pinned}
+use Rattle.cmm_flat.specs.Bytes.{bytes_at, zeros as flat_zeros}
+use Rattle.cmm_flat.specs.State.{FlatState, mapping_at, file_at}
 use Rattle.cmm_flat.specs.Legal.{Legal, flat_of, walk_of, start_of, progress_of, command_of}
 use Rattle.cmm_io.specs.DiskView.{DiskView, AreBlocks}
 use Rattle.essa_state.specs.PageValue.{PageValue, Contents, Bytes, Blank, Lost, IsValue, is_lost, is_blank}
 use Rattle.cmm_storage.specs.StorageView.{StorageView, zeros}
 use Rattle.guest_pages.specs.PagesView.{info_at, free_info, AreDistinct}
 use Rattle.guest_cache.specs.CacheView.{CacheView, IsTag, page_of, backing_of}
+use Rattle.guest_maps.specs.declared.slot.Pte.{Pte}
+use Rattle.guest_maps.specs.declared.slot.Slot.{Slot}
+use Rattle.guest_maps.specs.declared.slot.Shown.{Shown}
+use Rattle.guest_maps.specs.declared.slot.Shown.TheVariants.{File as OfFile, Anon}
+use Rattle.guest_maps.specs.MapsView.{MapsView, slot_at, find_slot, live_slots, entry_at, tag_at, writers_showing, IsPlace}
 use Rattle.guest_rules.specs.declared.parts.Parts.{Parts}
 use Rattle.guest_rules.specs.declared.processor.Phase.TheVariants.{Fill}
 use Rattle.guest_rules.specs.Hint.{hint}
 use Rattle.guest_rules.specs.GuestState.{GuestState, processor_at}
+use Rattle.guest_rules.specs.Turns.{slot_writable}
 use Rattle.guest_rules.specs.Built.{GuestIsBuilt}
 
 -- the tables, the storage and the disk are of the plan's sizes
@@ -47,21 +58,66 @@ pub record PagesFit (parts : Parts) : Type 0 where
   pub indexed : (page : ℕ) (tag : Tag) → (info_at parts.pages page).tag ≡ Some tag → IsTag parts.cache tag × (page_of parts.cache tag ≡ Some page)
   pub found : (page : ℕ) (tag : Tag) → IsTag parts.cache tag → page_of parts.cache tag ≡ Some page → (page < length parts.pages.infos) × ((info_at parts.pages page).tag ≡ Some tag)
 
--- mapping slots, entries and pins: nothing is mapped yet, so no page is pinned or shown, none is written, and every tag is of a file
-pub record MappingsFit (flat : FlatState) (parts : Parts) (v : StorageView) : Type 0 where
-  pub none_live : flat.mappings ≡ finite.empty
+-- what the flat machine has of the mapping in a slot. Nothing is pinned yet
+abbrev pub flat_mapping : Option Slot → Option Mapping
+flat_mapping None = None
+flat_mapping (Some slot) = Some (record { shown = flat_shown slot.shown slot.count; pins = none_pinned slot.count })
+  where
+    flat_shown : Shown → ℕ → FlatShown
+    flat_shown (OfFile file first writable) count = FlatFile file first writable
+    flat_shown Anon count = Anonymous (flat_zeros (PAGE * count))
+
+abbrev pub slot_found : MapsView → Option ℕ → Option Slot
+slot_found maps None = None
+slot_found maps (Some slot) = slot_at maps slot
+
+-- what the mapping in a slot shows is there: pages of a file, and no page of its own yet
+abbrev pub ShowsFile : CacheView → Slot → Type 0
+ShowsFile cache slot = (file : ℕ) × (first : ℕ) × (writable : Bool) × (slot.shown ≡ OfFile file first writable) × (file < length cache.files) × (first + slot.count ≤ slice_index_or cache.files file 0)
+
+-- mapping slots: a slot is free or live; the live ones are the live mappings of the flat state, each by its process and number
+pub record SlotsFit (state : FlatState) (parts : Parts) : Type 0 where
+  pub slots : length parts.maps.slots ≡ MAX_MAPPING_SLOTS
+  pub entries : length parts.maps.entries ≡ MAX_MAPPING_SLOTS * MAX_MAPPING_PAGES
+  pub pages : parts.maps.pages ≡ length parts.pages.infos
+  pub live : (slot : ℕ) (mapping : Slot) → slot_at parts.maps slot ≡ Some mapping → mapping.live ≡ true
+  pub apart : (slot other : ℕ) (mapping another : Slot) → slot_at parts.maps slot ≡ Some mapping → slot_at parts.maps other ≡ Some another → mapping.process ≡ another.process
+      → mapping.map ≡ another.map → slot ≡ other
+  pub flat : (process number : ℕ) → mapping_at state process number ≡ flat_mapping (slot_found parts.maps (find_slot parts.maps process number))
+  pub counted : finite.len state.mappings ≡ live_slots parts.maps
+  pub shown : (slot : ℕ) (mapping : Slot) → slot_at parts.maps slot ≡ Some mapping → (mapping.count ≤ MAX_MAPPING_PAGES) × ShowsFile parts.cache mapping
+
+-- the page with the tag of the entry's place is up to date, and the entry allows stores only where the mapping does
+pub record IsEntry (parts : Parts) (slot index : ℕ) (pte : Pte) : Type 0 where
+  pub place : IsPlace parts.maps slot index
+  pub tag : Tag
+  pub mapped : tag_at parts.maps slot index ≡ Some tag
+  pub tagged : (info_at parts.pages pte.page).tag ≡ Some tag
+  pub uptodate : (info_at parts.pages pte.page).uptodate ≡ true
+  pub writable : pte.writable ≡ true → slot_writable (slot_at parts.maps slot) ≡ true
+
+-- entries: each shows the page whose tag its place maps; the writers of a page are the writable entries that show it
+pub record EntriesFit (parts : Parts) : Type 0 where
+  pub entry : (slot index : ℕ) (pte : Pte) → index < MAX_MAPPING_PAGES → entry_at parts.maps slot index ≡ Some pte → IsEntry parts slot index pte
+  pub writers : (page : ℕ) → (info_at parts.pages page).writers ≡ writers_showing parts.maps page
+
+-- pins, and tags of anonymous pages: there is none yet
+pub record PinsFit (parts : Parts) : Type 0 where
   pub unpinned : (page : ℕ) → (info_at parts.pages page).pins ≡ 0
-  pub unshown : (page : ℕ) → (info_at parts.pages page).writers ≡ 0
-  pub clean : (page : ℕ) → (info_at parts.pages page).dirty ≡ false
-  pub unchanged : (page : ℕ) → page < v.pages → (v.values page).changed ≡ false
   pub of_files : (page : ℕ) (tag : Tag) → (info_at parts.pages page).tag ≡ Some tag → (file : ℕ) × (index : ℕ) × (tag ≡ File file index)
 
--- a processor that fills a page has a command that reads it
+-- a command that needs a page: it reads, loads or stores
+abbrev pub NeedsPage : Op → Type 0
+NeedsPage (Read file off len) = Unit {0}
+NeedsPage (Load number off len) = Unit {0}
+NeedsPage (Store number off bytes) = Unit {0}
+NeedsPage op = ⊥
+
+-- a processor that fills a page has a command that needs one
 pub record IsFilling (g : GuestState) (cpu page : ℕ) : Type 0 where
-  pub file : ℕ
-  pub off : ℕ
-  pub len : ℕ
-  pub command : command_of g.plan cpu (processor_at g cpu).place ≡ Some (Read file off len)
+  pub op : Op
+  pub command : command_of g.plan cpu (processor_at g cpu).place ≡ Some op
+  pub needs : NeedsPage op
   pub below : page < length g.parts.pages.infos
   pub owner : (info_at g.parts.pages page).owner ≡ Some cpu
   pub stale : (info_at g.parts.pages page).uptodate ≡ false
@@ -70,6 +126,7 @@ pub record IsFilling (g : GuestState) (cpu page : ℕ) : Type 0 where
 
 -- locks: a page is locked by a processor exactly where that processor fills it; a tagged page isn't up to date exactly there
 pub record LocksFit (g : GuestState) : Type 0 where
+  pub stale_clean : (page : ℕ) → (info_at g.parts.pages page).uptodate ≡ false → (info_at g.parts.pages page).dirty ≡ false
   pub filling : (cpu page : ℕ) → (processor_at g cpu).phase ≡ Fill page → (cpu < length g.processors) × IsFilling g cpu page
   pub locked : (cpu page : ℕ) → (info_at g.parts.pages page).owner ≡ Some cpu → (processor_at g cpu).phase ≡ Fill page
   pub stale : (page : ℕ) (tag : Tag) → (info_at g.parts.pages page).tag ≡ Some tag → (info_at g.parts.pages page).owner ≡ None → (info_at g.parts.pages page).uptodate ≡ true
@@ -165,7 +222,9 @@ FaultsFit parts v = parts.faults + over_pages (λ page. one_if_lost (v.values pa
 pub record FitAt (state : FlatState) (g : GuestState) (v : StorageView) (d : DiskView) : Type 0 where
   pub sizes : SizesFit g v d
   pub pages : PagesFit g.parts
-  pub mappings : MappingsFit state g.parts v
+  pub slots : SlotsFit state g.parts
+  pub entries : EntriesFit g.parts
+  pub pins : PinsFit g.parts
   pub locks : LocksFit g
   pub hints : HintsFit g.parts v
   pub contents : ContentsFit g.parts v d

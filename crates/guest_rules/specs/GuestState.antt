@@ -3,6 +3,7 @@ use Rattle.std.specs.Prelude.{ℕ, ◌+◌, ◌++◌, List, [], ◌∷◌, map, 
 use Rattle.cmm_types.specs.declared.plan.TheConstants.{MAX_MAPPING_SLOTS}
 use Rattle.guest_pages.specs.PagesView.{opening_pages}
 use Rattle.guest_cache.specs.CacheView.{opening_cache}
+use Rattle.guest_maps.specs.MapsView.{opening_maps}
 use Rattle.cmm_types.specs.declared.plan.GuestPlan.{GuestPlan}
 use Rattle.cmm_types.specs.declared.command.Op.{Op}
 use Rattle.cmm_types.specs.declared.command.Reply.{Reply}
@@ -45,7 +46,7 @@ entered g cpu op reply =
 abbrev pub opening_guest : GuestPlan → GuestState
 opening_guest plan = record {
   plan = plan;
-  parts = record { pages = opening_pages plan.pages; cache = opening_cache (map (λ file. file.pages) plan.files) MAX_MAPPING_SLOTS; faults = 0 };
+  parts = record { pages = opening_pages plan.pages; cache = opening_cache (map (λ file. file.pages) plan.files) MAX_MAPPING_SLOTS; maps = opening_maps plan.pages MAX_MAPPING_SLOTS; faults = 0 };
   journal = [];
   processors = map (λ cpu. at_start) plan.cpus;
 }

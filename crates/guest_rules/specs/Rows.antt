@@ -1,5 +1,5 @@
 -- What a turn does to one page, as programs of calls. Each begins and ends with no page held, but the parts that say otherwise.
-use Rattle.std.specs.Prelude.{ℕ, List, Bool, true, false, Option, Some, None, Result, Ok, Err}
+use Rattle.std.specs.Prelude.{ℕ, ◌+◌, List, Bool, true, false, Option, Some, None, Result, Ok, Err}
 use Rattle.cmm_types.specs.declared.page.Tag.{Tag}
 use Rattle.cmm_types.specs.declared.page.Usage.{Usage}
 use Rattle.cmm_types.specs.declared.page.Usage.TheVariants.{S, U, P, V}
@@ -14,14 +14,17 @@ use Rattle.cmm_storage.specs.declared.storage.Trap.{Trap}
 use Rattle.cmm_storage.specs.declared.storage.Trap.TheVariants.{Discarded, Paging, NoFrame}
 use Rattle.cmm_storage.specs.StorageView.{zeros}
 use Rattle.cmm_storage.specs.Program.{Program, done, take_page, touch_page, order_page, take_change, fetch_page, store_page, put_page, read_block, bind}
-use Rattle.guest_pages.specs.PagesView.{free_info, info_at, with_info, with_uptodate, with_dirty, with_owner, pushed}
+use Rattle.guest_pages.specs.PagesView.{free_info, info_at, with_info, with_uptodate, with_dirty, with_owner, with_writers, pushed}
 use Rattle.guest_cache.specs.CacheView.{CacheView, without_page, backing_of}
+use Rattle.guest_maps.specs.MapsView.{with_entry, without_entries_of}
 use Rattle.guest_rules.specs.declared.parts.Parts.{Parts}
 use Rattle.guest_rules.specs.declared.outcome.Gone.{Gone}
 use Rattle.guest_rules.specs.declared.outcome.Filled.{Filled}
 use Rattle.guest_rules.specs.declared.outcome.Filled.TheVariants.{Done, Again, Fail}
 use Rattle.guest_rules.specs.declared.outcome.Missed.{Missed}
 use Rattle.guest_rules.specs.declared.outcome.Missed.TheVariants.{Gone as WasGone, Again as MissedAgain, Fail as MissedFail}
+use Rattle.guest_rules.specs.declared.outcome.Resolved.{Resolved}
+use Rattle.guest_rules.specs.declared.outcome.Resolved.TheVariants.{Mapped, Gone as EntryGone, Again as EntryAgain}
 use Rattle.guest_rules.specs.Hint.{hint}
 
 -- the index without the page's tag, if it has one
@@ -29,10 +32,14 @@ abbrev pub without_tag : CacheView → Option Tag → CacheView
 without_tag cache None = cache
 without_tag cache (Some tag) = without_page cache tag
 
--- the page has no tag any more, and is the next free one
+-- the page has no tag any more, no entry shows it, and it is the next free one
 unfoldable pub freed : Parts → ℕ → Parts
 freed parts page =
-    record parts { pages = pushed (with_info parts.pages page free_info) page; cache = without_tag parts.cache (info_at parts.pages page).tag }
+    record parts {
+      pages = pushed (with_info parts.pages page free_info) page;
+      cache = without_tag parts.cache (info_at parts.pages page).tag;
+      maps = without_entries_of parts.maps page;
+    }
 
 -- the same after a discard, which is counted
 unfoldable pub handled : Parts → ℕ → Parts
@@ -93,6 +100,61 @@ read_taken parts page off len (Err busy) = done (parts, Err (MissedAgain (WasBus
 -- bytes of a page with a tag that isn't locked
 unfoldable pub read_page : Parts → ℕ → ℕ → ℕ → Program (Parts × Result (List ℕ) Missed)
 read_page parts page off len = take_page page (read_taken parts page off len)
+
+-- how many writable entries one more entry is
+abbrev pub one_if : Bool → ℕ
+one_if true = 1
+one_if false = 0
+
+-- the entry at a place shows the page. It is set where there was none, or none that could be stored through
+unfoldable pub mapped : Parts → (page slot index : ℕ) → (writable : Bool) → Parts
+mapped parts page slot index writable =
+    record parts {
+      pages = with_writers parts.pages page ((info_at parts.pages page).writers + one_if writable);
+      maps = with_entry parts.maps slot index (Some (record { page = page; writable = writable }));
+    }
+
+abbrev pub resolve_stable : (page slot index : ℕ) → (writable : Bool) → Parts → Result Unit Gone → Program (Parts × Resolved)
+resolve_stable page slot index writable parts (Ok u) = bind (rehint (mapped parts page slot index writable) page) (λ after. put_page page (done (after, Mapped)))
+resolve_stable page slot index writable parts (Err gone) = put_page page (done (parts, EntryGone))
+
+abbrev pub resolve_taken : Parts → (page slot index : ℕ) → (writable : Bool) → Result Unit Busy → Program (Parts × Resolved)
+resolve_taken parts page slot index writable (Ok u) = bind (make_stable parts page) (λ went. resolve_stable page slot index writable went.0 went.1)
+resolve_taken parts page slot index writable (Err busy) = done (parts, EntryAgain (WasBusy page busy.word))
+
+-- the entry at a place is set to show a page with the place's tag that isn't locked
+unfoldable pub resolve : Parts → (page slot index : ℕ) → (writable : Bool) → Program (Parts × Resolved)
+resolve parts page slot index writable = take_page page (resolve_taken parts page slot index writable)
+
+-- a touch through an entry that failed: a discarded page goes through its handler
+abbrev pub touch_missed : {A : Type 0} → ℕ → Parts → Trap → Program (Parts × Result A Missed)
+touch_missed page parts Discarded = bind (handler parts page) (λ after. put_page page (done (after, Err WasGone)))
+touch_missed page parts Paging = put_page page (done (parts, Err (MissedFail PagingCause)))
+touch_missed page parts (NoFrame looks) = put_page page (done (parts, Err (MissedAgain (HadNoFrame looks))))
+
+abbrev pub load_touched : ℕ → ℕ → ℕ → Parts → Result Unit Trap → Program (Parts × Result (List ℕ) Missed)
+load_touched page off len parts (Ok u) = fetch_page page off len (λ bytes. put_page page (done (parts, Ok bytes)))
+load_touched page off len parts (Err trap) = touch_missed page parts trap
+
+abbrev pub load_taken : Parts → ℕ → ℕ → ℕ → Result Unit Busy → Program (Parts × Result (List ℕ) Missed)
+load_taken parts page off len (Ok u) = touch_page page (load_touched page off len parts)
+load_taken parts page off len (Err busy) = done (parts, Err (MissedAgain (WasBusy page busy.word)))
+
+-- bytes of a page through an entry that shows it
+unfoldable pub load_page : Parts → ℕ → ℕ → ℕ → Program (Parts × Result (List ℕ) Missed)
+load_page parts page off len = take_page page (load_taken parts page off len)
+
+abbrev pub store_touched : ℕ → ℕ → List ℕ → Parts → Result Unit Trap → Program (Parts × Result Unit Missed)
+store_touched page off bytes parts (Ok u) = store_page page off bytes (put_page page (done (parts, Ok tt)))
+store_touched page off bytes parts (Err trap) = touch_missed page parts trap
+
+abbrev pub store_taken : Parts → ℕ → ℕ → List ℕ → Result Unit Busy → Program (Parts × Result Unit Missed)
+store_taken parts page off bytes (Ok u) = touch_page page (store_touched page off bytes parts)
+store_taken parts page off bytes (Err busy) = done (parts, Err (MissedAgain (WasBusy page busy.word)))
+
+-- bytes are stored to a page through a writable entry that shows it: its change bit tells
+unfoldable pub store_through : Parts → ℕ → ℕ → List ℕ → Program (Parts × Result Unit Missed)
+store_through parts page off bytes = take_page page (store_taken parts page off bytes)
 
 -- the page has its bytes, and isn't locked
 abbrev pub filled : Parts → ℕ → Parts

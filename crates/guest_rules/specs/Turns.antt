@@ -1,24 +1,30 @@
 -- The turns of a processor, as programs of calls: the table of turns, for the commands that are built.
-use Rattle.std.specs.Prelude.{ℕ, ◌+◌, ◌*◌, ◌/◌, ◌%◌, List, [], ◌∷◌, Bool, false, ◌&&◌, nat_lt, nat_le, if◌then◌else◌, length, Option, Some, None, Result, Ok, Err, slice_get}
+use Rattle.std.specs.Prelude.{ℕ, ◌+◌, ◌*◌, ◌/◌, ◌%◌, List, [], ◌∷◌, Bool, true, false, not, ◌&&◌, nat_lt, nat_le, if◌then◌else◌, length, Option, Some, None, Result, Ok, Err, slice_get}
 use Rattle.cmm_types.specs.declared.page.TheConstants.{PAGE}
 use Rattle.cmm_types.specs.declared.page.Tag.{Tag}
-use Rattle.cmm_types.specs.declared.page.Tag.TheVariants.{File}
+use Rattle.cmm_types.specs.declared.page.Tag.TheVariants.{File as FileTag}
+use Rattle.cmm_types.specs.declared.plan.TheConstants.{MAX_LIVE_MAPPINGS}
 use Rattle.cmm_types.specs.declared.plan.FilePlan.{FilePlan}
 use Rattle.cmm_types.specs.declared.command.Op.{Op}
-use Rattle.cmm_types.specs.declared.command.Op.TheVariants.{Read}
-use Rattle.cmm_types.specs.declared.command.Reply.TheVariants.{Bytes, Refused, Fail}
+use Rattle.cmm_types.specs.declared.command.Op.TheVariants.{Read, MapFile, Load, Store}
+use Rattle.cmm_types.specs.declared.command.Reply.TheVariants.{Done as ReplyDone, Bytes, Refused, Fail}
 use Rattle.cmm_types.specs.declared.command.Cause.TheVariants.{NoPage}
 use Rattle.cmm_types.specs.declared.command.FlatRefusal.{FlatRefusal}
-use Rattle.cmm_types.specs.declared.command.FlatRefusal.TheVariants.{OutOfRange}
+use Rattle.cmm_types.specs.declared.command.FlatRefusal.TheVariants.{NoMapping, AlreadyMapped, OutOfRange, ReadOnly, TooManyMaps}
 use Rattle.cmm_types.specs.declared.turn.Turn.{Turn}
 use Rattle.cmm_types.specs.declared.turn.Turn.TheVariants.{Moved, Finished, Waits, Again, Idle}
 use Rattle.cmm_types.specs.declared.turn.Why.TheVariants.{Busy as WasBusy}
-use Rattle.cmm_flat.specs.Legal.{command_of}
+use Rattle.cmm_flat.specs.Legal.{command_of, process_of}
 use Rattle.essa_state.specs.declared.orders.Order.TheVariants.{SetStable}
 use Rattle.cmm_storage.specs.declared.storage.Busy.{Busy}
 use Rattle.cmm_storage.specs.Program.{Program, done, take_page, order_page, put_page, bind}
 use Rattle.guest_pages.specs.PagesView.{info_at, with_info, popped}
 use Rattle.guest_cache.specs.CacheView.{page_of, with_page}
+use Rattle.guest_maps.specs.declared.slot.Pte.{Pte}
+use Rattle.guest_maps.specs.declared.slot.Shown.{Shown}
+use Rattle.guest_maps.specs.declared.slot.Shown.TheVariants.{File as OfFile}
+use Rattle.guest_maps.specs.declared.slot.Slot.{Slot}
+use Rattle.guest_maps.specs.MapsView.{MapsView, slot_at, find_slot, free_slot, live_slots, entry_at, tag_at, is_writable, with_mapping}
 use Rattle.guest_rules.specs.declared.parts.Parts.{Parts}
 use Rattle.guest_rules.specs.declared.processor.Phase.{Phase}
 use Rattle.guest_rules.specs.declared.processor.Phase.TheVariants.{Start, Fill}
@@ -27,7 +33,9 @@ use Rattle.guest_rules.specs.declared.outcome.Filled.TheVariants.{Done as Filled
 use Rattle.guest_rules.specs.declared.outcome.Missed.{Missed}
 use Rattle.guest_rules.specs.declared.outcome.Missed.TheVariants.{Gone as MissedGone, Again as MissedAgain, Fail as MissedFail}
 use Rattle.guest_rules.specs.GuestState.{GuestState, processor_at, with_parts, with_phase, entered}
-use Rattle.guest_rules.specs.Rows.{read_page, fill}
+use Rattle.guest_rules.specs.declared.outcome.Resolved.{Resolved}
+use Rattle.guest_rules.specs.declared.outcome.Resolved.TheVariants.{Mapped, Gone as EntryGone, Again as EntryAgain}
+use Rattle.guest_rules.specs.Rows.{read_page, load_page, store_through, resolve, fill}
 
 -- the pages of a file; none where there is no such file
 abbrev pub file_pages : List FilePlan → ℕ → ℕ
@@ -41,10 +49,37 @@ file_pages files file = of (slice_get files file)
 abbrev pub has_bytes : List FilePlan → ℕ → ℕ → ℕ → Bool
 has_bytes files file off len = nat_lt file (length files) && nat_le (off + len) (PAGE * file_pages files file)
 
--- why the command is refused, as the tables say
-abbrev pub refusal_in : GuestState → Op → Option FlatRefusal
-refusal_in g (Read file off len) = if has_bytes g.plan.files file off len then None else Some OutOfRange
-refusal_in g op = None
+-- the pages of the mapping in a slot
+abbrev pub mapping_pages : Option Slot → ℕ
+mapping_pages None = 0
+mapping_pages (Some slot) = slot.count
+
+abbrev pub slot_writable : Option Slot → Bool
+slot_writable None = false
+slot_writable (Some slot) = is_writable slot.shown
+
+-- why bytes of a mapping can't be reached
+abbrev pub refusal_at : MapsView → (writes : Bool) → (off len : ℕ) → Option ℕ → Option FlatRefusal
+refusal_at maps writes off len None = Some NoMapping
+refusal_at maps writes off len (Some slot) =
+    if nat_le (off + len) (PAGE * mapping_pages (slot_at maps slot))
+    then (if writes && not (slot_writable (slot_at maps slot)) then Some ReadOnly else None)
+    else Some OutOfRange
+
+abbrev pub refusal_of_new : GuestState → (file first count : ℕ) → Option ℕ → Option FlatRefusal
+refusal_of_new g file first count (Some slot) = Some AlreadyMapped
+refusal_of_new g file first count None =
+    if has_bytes g.plan.files file (PAGE * first) (PAGE * count)
+    then (if nat_le MAX_LIVE_MAPPINGS (live_slots g.parts.maps) then Some TooManyMaps else None)
+    else Some OutOfRange
+
+-- why a command of a process is refused, as the tables say
+abbrev pub refusal_in : GuestState → (process : ℕ) → Op → Option FlatRefusal
+refusal_in g process (Read file off len) = if has_bytes g.plan.files file off len then None else Some OutOfRange
+refusal_in g process (MapFile number file first count writable) = refusal_of_new g file first count (find_slot g.parts.maps process number)
+refusal_in g process (Load number off len) = refusal_at g.parts.maps false off len (find_slot g.parts.maps process number)
+refusal_in g process (Store number off bytes) = refusal_at g.parts.maps true off (length bytes) (find_slot g.parts.maps process number)
+refusal_in g process op = None
 
 -- a free page gets a tag, and is locked by the processor that is to fill it
 unfoldable pub begun : Parts → ℕ → Tag → ℕ → Parts
@@ -69,10 +104,38 @@ read_next g cpu op parts (Err MissedGone) = done (with_parts g parts, Moved)
 read_next g cpu op parts (Err (MissedAgain why)) = done (with_parts g parts, Again why)
 read_next g cpu op parts (Err (MissedFail cause)) = done (entered (with_parts g parts) cpu op (Fail cause), Finished)
 
+abbrev pub resolve_next : GuestState → Parts → Resolved → Program (GuestState × Turn)
+resolve_next g parts Mapped = done (with_parts g parts, Moved)
+resolve_next g parts EntryGone = done (with_parts g parts, Moved)
+resolve_next g parts (EntryAgain why) = done (with_parts g parts, Again why)
+
+abbrev pub resolve_in : GuestState → (page number off : ℕ) → (writable : Bool) → ℕ → Option ℕ → Program (GuestState × Turn)
+resolve_in g page number off writable process None = done (g, Idle)
+resolve_in g page number off writable process (Some slot) = bind (resolve g.parts page slot (off / PAGE) writable) (λ went. resolve_next g went.0 went.1)
+
+-- the entry of the command's page is to be set
+abbrev pub resolve_turn : GuestState → ℕ → (page number off : ℕ) → (writable : Bool) → Program (GuestState × Turn)
+resolve_turn g cpu page number off writable =
+    resolve_in g page number off writable (process_of g.plan cpu) (find_slot g.parts.maps (process_of g.plan cpu) number)
+
 -- the command finds its page up to date
 unfoldable pub use_turn : GuestState → ℕ → Op → ℕ → Program (GuestState × Turn)
 use_turn g cpu (Read file off len) page = bind (read_page g.parts page (off % PAGE) len) (λ went. read_next g cpu (Read file off len) went.0 went.1)
+use_turn g cpu (Load number off len) page = resolve_turn g cpu page number off false
+use_turn g cpu (Store number off bytes) page = resolve_turn g cpu page number off true
 use_turn g cpu op page = done (g, Idle)
+
+abbrev pub store_next : GuestState → ℕ → Op → Parts → Result Unit Missed → Program (GuestState × Turn)
+store_next g cpu op parts (Ok u) = done (entered (with_parts g parts) cpu op ReplyDone, Finished)
+store_next g cpu op parts (Err MissedGone) = done (with_parts g parts, Moved)
+store_next g cpu op parts (Err (MissedAgain why)) = done (with_parts g parts, Again why)
+store_next g cpu op parts (Err (MissedFail cause)) = done (entered (with_parts g parts) cpu op (Fail cause), Finished)
+
+-- a load or a store finds its entry
+unfoldable pub hit_turn : GuestState → ℕ → Op → ℕ → Program (GuestState × Turn)
+hit_turn g cpu (Load number off len) page = bind (load_page g.parts page (off % PAGE) len) (λ went. read_next g cpu (Load number off len) went.0 went.1)
+hit_turn g cpu (Store number off bytes) page = bind (store_through g.parts page (off % PAGE) bytes) (λ went. store_next g cpu (Store number off bytes) went.0 went.1)
+hit_turn g cpu op page = done (g, Idle)
 
 -- no page has the tag. There is always a free one: the files' pages together are at most the guest's
 abbrev pub start_free : GuestState → ℕ → Op → Tag → List ℕ → Program (GuestState × Turn)
@@ -90,8 +153,33 @@ start_found g cpu op tag (Some page) = start_locked g cpu op page (info_at g.par
 abbrev pub start_tagged : GuestState → ℕ → Op → Tag → Program (GuestState × Turn)
 start_tagged g cpu op tag = start_found g cpu op tag (page_of g.parts.cache tag)
 
+-- the place's tag; a command that isn't refused has one
+abbrev pub start_at : GuestState → ℕ → Op → Option Tag → Program (GuestState × Turn)
+start_at g cpu op None = done (g, Idle)
+start_at g cpu op (Some tag) = start_tagged g cpu op tag
+
+-- a load or a store at page `index` of a mapping: through the entry there, where it serves
+abbrev pub start_entry : GuestState → ℕ → Op → (writes : Bool) → (slot index : ℕ) → Option Pte → Program (GuestState × Turn)
+start_entry g cpu op writes slot index None = start_at g cpu op (tag_at g.parts.maps slot index)
+start_entry g cpu op writes slot index (Some pte) =
+    if writes && not pte.writable then start_at g cpu op (tag_at g.parts.maps slot index) else hit_turn g cpu op pte.page
+
+abbrev pub start_mapped : GuestState → ℕ → Op → (writes : Bool) → (off : ℕ) → Option ℕ → Program (GuestState × Turn)
+start_mapped g cpu op writes off None = done (g, Idle)
+start_mapped g cpu op writes off (Some slot) = start_entry g cpu op writes slot (off / PAGE) (entry_at g.parts.maps slot (off / PAGE))
+
+-- the lowest free slot has the new mapping
+abbrev pub map_turn : GuestState → ℕ → Op → (number : ℕ) → Shown → (count : ℕ) → Option ℕ → Program (GuestState × Turn)
+map_turn g cpu op number shown count None = done (g, Idle)
+map_turn g cpu op number shown count (Some slot) =
+    done (entered (with_parts g (record g.parts { maps = with_mapping g.parts.maps slot (process_of g.plan cpu) number shown count })) cpu op ReplyDone, Finished)
+
 abbrev pub start_accepted : GuestState → ℕ → Op → Program (GuestState × Turn)
-start_accepted g cpu (Read file off len) = start_tagged g cpu (Read file off len) (File file (off / PAGE))
+start_accepted g cpu (Read file off len) = start_tagged g cpu (Read file off len) (FileTag file (off / PAGE))
+start_accepted g cpu (MapFile number file first count writable) =
+    map_turn g cpu (MapFile number file first count writable) number (OfFile file first writable) count (free_slot g.parts.maps)
+start_accepted g cpu (Load number off len) = start_mapped g cpu (Load number off len) false off (find_slot g.parts.maps (process_of g.plan cpu) number)
+start_accepted g cpu (Store number off bytes) = start_mapped g cpu (Store number off bytes) true off (find_slot g.parts.maps (process_of g.plan cpu) number)
 start_accepted g cpu op = done (g, Idle)
 
 abbrev pub start_refused : GuestState → ℕ → Op → Option FlatRefusal → Program (GuestState × Turn)
@@ -100,7 +188,7 @@ start_refused g cpu op None = start_accepted g cpu op
 
 -- the turn of a processor in phase Start
 unfoldable pub start_turn : GuestState → ℕ → Op → Program (GuestState × Turn)
-start_turn g cpu op = start_refused g cpu op (refusal_in g op)
+start_turn g cpu op = start_refused g cpu op (refusal_in g (process_of g.plan cpu) op)
 
 abbrev pub fill_next : GuestState → ℕ → Op → Parts → Filled → Program (GuestState × Turn)
 fill_next g cpu op parts FilledDone = done (with_phase (with_parts g parts) cpu Start, Moved)

@@ -25,3 +25,14 @@ pub enum Missed {
     /// The pager failed.
     Fail(Cause),
 }
+
+/// What became of an entry that was to be set.
+#[derive(Clone, Copy, Debug, PartialEq, Eq)]
+pub enum Resolved {
+    /// The entry shows the page.
+    Mapped,
+    /// The page had been discarded, and is free now.
+    Gone,
+    /// The turn has to be taken again.
+    Again { why: Why },
+}

@@ -1,4 +1,5 @@
 use guest_cache::Cache;
+use guest_maps::Maps;
 use guest_pages::Pages;
 
 /// The tables of a guest.
@@ -8,6 +9,8 @@ pub struct Parts {
     pub pages: Pages,
     /// Which page has a tag.
     pub cache: Cache,
+    /// What is mapped, and which entry shows which page.
+    pub maps: Maps,
     /// How many discarded pages were handled. The count stands still at its type's end.
     pub faults: u64,
 }

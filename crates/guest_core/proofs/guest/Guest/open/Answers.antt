@@ -13,11 +13,13 @@ returns c =
     c.in_ok-copy_plan.field-0
     c.in_ok-open.field-0
     c.in_ok-open-2.field-0
+    c.in_ok-open-3.field-0
     c.in_ok-with_capacity.field-0.items
     c.in_ok-vec.field-0.items
     c.in_ok-copy_plan.ensures
     c.in_ok-open.ensures
     (c.in_ok-open-2.ensures
     ∙ ap (λ files. opening_cache files MAX_MAPPING_SLOTS) (c.deref.ensures.value ∙ c.in_ok-files.ensures ∙ ap (λ files. map (λ (file : FilePlan). file.pages) files) c.as_slice.ensures))
+    c.in_ok-open-3.ensures
     c.in_ok-with_capacity.ensures.items
     (c.in_ok-vec.ensures.items_if_clones_equal (λ y h. h) ∙ ap (λ n. replicate n at_start) c.len.ensures ∙ all_at_start c.args.plan.now.cpus)

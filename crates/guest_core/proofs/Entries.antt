@@ -1,0 +1,67 @@
+-- What the entry that a load or a store finds gives the calls of its turn.
+use Rattle.std.proofs.Common.{◌≡◌, ◌≤◌, ◌/◌, ℕ, List, Bool, true, false, Some, nat_eq, if◌then◌else◌, refl, ap, sym, subst, ◌∙◌, arith}
+use Rattle.std.proofs.lemmas.Bool.Decides.{nat_tests}
+use Rattle.cmm_types.specs.declared.page.TheConstants.{PAGE}
+use Rattle.cmm_types.specs.declared.page.Tag.{Tag}
+use Rattle.cmm_types.specs.declared.page.Usage.{Usage}
+use Rattle.cmm_types.specs.declared.page.Usage.TheVariants.{S, U, P, V}
+use Rattle.cmm_types.specs.declared.command.Op.{Op}
+use Rattle.cmm_types.specs.declared.command.Op.TheVariants.{Store}
+use Rattle.cmm_io.specs.DiskView.{DiskView}
+use Rattle.essa_state.specs.StateWord.{is_unused}
+use Rattle.cmm_storage.specs.StorageView.{StorageView, can_store}
+use Rattle.cmm_flat.specs.Legal.{flat_of}
+use Rattle.guest_pages.specs.declared.info.PageInfo.{PageInfo}
+use Rattle.guest_pages.specs.PagesView.{info_at}
+use Rattle.guest_maps.specs.MapsView.{entry_at}
+use Rattle.guest_rules.specs.Hint.{can_be_fetched_again, hint}
+use Rattle.guest_rules.specs.GuestState.{GuestState}
+use Rattle.guest_rules.specs.Fit.{Fit}
+use Rattle.guest_rules.proofs.TurnCases.{HasPage, Maps}
+use Rattle.guest_rules.proofs.ValueLaws.{hint-tagged}
+use Rattle.guest_rules.proofs.EntryLaws.{some_writer}
+use Rattle.guest_rules.proofs.Reached.{entry_page}
+use Rattle.guest_rules.proofs.ReadyCalls.{CanBeUsed, entry-usable}
+use Rattle.guest_core.specs.Between.{Hits}
+
+pub hit-usable : (g : GuestState) (v : StorageView) (d : DiskView) (cpu : ℕ) (op : Op) (page : ℕ) → Fit g v d → Hits g cpu op page → CanBeUsed g v page
+hit-usable g v d cpu op page f hits = entry-usable g v d cpu op hits.writes hits.slot hits.off (record { page = page; writable = hits.writable }) f hits.reaches hits.entry
+
+hit-page : (g : GuestState) (v : StorageView) (d : DiskView) (cpu : ℕ) (op : Op) (page : ℕ) → Fit g v d → (hits : Hits g cpu op page) → HasPage g hits.reaches.tag page
+hit-page g v d cpu op page f hits = entry_page (flat_of g.plan g.journal) g v d cpu op hits.writes hits.slot hits.off (record { page = page; writable = hits.writable }) f hits.reaches hits.entry
+
+-- the usage of a page that has a tag
+used_unless : (u : Usage) → (u ≡ U → ⊥) → is_unused u ≡ false
+used_unless S n = refl
+used_unless U n = absurd (n refl)
+used_unless P n = refl
+used_unless V n = refl
+
+stored_to : (info : PageInfo) (tag : Tag) → info.tag ≡ Some tag → 1 ≤ info.writers → can_store (hint info) ≡ true
+unfolding hint
+stored_to info tag tagged some = rw tagged (of (can_be_fetched_again info) (nat_eq info.writers 0) some_not_none)
+  where
+    some_not_none : nat_eq info.writers 0 ≡ false
+    some_not_none = grind (arith, nat_tests, some)
+
+    of : (clean none : Bool) → none ≡ false → can_store (if clean then (if none then V else P) else S) ≡ true
+    of true true e = let bad : true ≡ false = e in absurd cc
+    of true false e = refl
+    of false none e = refl
+
+-- the page isn't unused
+pub hit-used : (g : GuestState) (v : StorageView) (d : DiskView) (cpu : ℕ) (op : Op) (page : ℕ) → Fit g v d → Hits g cpu op page → is_unused (v.values page).usage ≡ false
+hit-used g v d cpu op page f hits =
+    let has = hit-page g v d cpu op page f hits in
+    let below = (hit-usable g v d cpu op page f hits).pages_below in
+    used_unless (v.values page).usage (λ bad. hint-tagged (info_at g.parts.pages page) hits.reaches.tag has.tagged (sym (f.hints.hints page below) ∙ bad))
+
+-- and may be stored to, where a store goes through the entry
+pub hit-writable : (g : GuestState) (v : StorageView) (d : DiskView) (cpu : ℕ) (op : Op) (page number off : ℕ) (bytes : List ℕ) → Fit g v d → Hits g cpu op page → op ≡ Store number off bytes → can_store (v.values page).usage ≡ true
+hit-writable g v d cpu op page number off bytes f hits is =
+    let has = hit-page g v d cpu op page f hits in
+    let below = (hit-usable g v d cpu op page f hits).pages_below in
+    let maps : Maps g cpu (Store number off bytes) hits.writes hits.slot hits.off = subst (λ q. Maps g cpu q hits.writes hits.slot hits.off) is hits.reaches.maps in
+    let entry : entry_at g.parts.maps hits.slot (hits.off / PAGE) ≡ Some (record { page = page; writable = true }) = hits.entry ∙ ap (λ w. Some (record { page = page; writable = w })) (hits.serves maps.0) in
+    let some : 1 ≤ (info_at g.parts.pages page).writers = omega (arith, f.entries.writers page, some_writer g.parts.maps hits.slot (hits.off / PAGE) page entry) in
+    ap can_store (f.hints.hints page below) ∙ stored_to (info_at g.parts.pages page) hits.reaches.tag has.tagged some

@@ -1,0 +1,64 @@
+use Rattle.std.proofs.Common.{refl, ap, sym, subst, ◌∙◌}
+use Rattle.cmm_flat.specs.Legal.{flat_of, process_of}
+use Rattle.cmm_storage.specs.Program.{DoesAlone}
+use Rattle.guest_rules.proofs.TurnCases.{Starts, wanted_tag}
+use Rattle.guest_rules.proofs.Reached.{load_reaches, store_reaches}
+use Rattle.guest_rules.proofs.ReadyCalls.{load-piece, store-piece, process-below, map-pages, map-free}
+use Rattle.guest_core.proofs.OtherTurns.{accepted-read, accepted-map, accepted-load, accepted-store, new-fresh}
+use Rattle.guest_core.proofs.guest.Guest.start_accepted.Goals as goal
+
+pub start_tagged-requires-clause-wants : goal.start_tagged-requires-clause-wants
+start_tagged-requires-clause-wants g c =
+    ap (wanted_tag c.args.self.now.parts (process_of c.args.self.now.plan c.args.cpu)) c.in-Read.is
+
+pub map_turn-requires-clause-range : goal.map_turn-requires-clause-range
+map_turn-requires-clause-range g c =
+    (process-below c.args.self.now (g.St.Storage.view c.args.st.now) c.requires.fit.0 c.args.cpu c.requires.fit.1, (map-pages c.args.self.now (g.St.Storage.view c.args.st.now) c.requires.fit.0 c.args.cpu _ _ _ _ _ c.requires.fit.1 (subst (λ op. Starts c.args.self.now c.args.cpu op) c.in-MapFile.is c.requires.starts).has).0, (map-pages c.args.self.now (g.St.Storage.view c.args.st.now) c.requires.fit.0 c.args.cpu _ _ _ _ _ c.requires.fit.1 (subst (λ op. Starts c.args.self.now c.args.cpu op) c.in-MapFile.is c.requires.starts).has).1)
+
+pub map_turn-requires-clause-new : goal.map_turn-requires-clause-new
+map_turn-requires-clause-new g c =
+    new-fresh c.args.self.now _ _ _ _ (subst (λ op. Starts c.args.self.now c.args.cpu op) c.in-MapFile.is c.requires.starts).accepted
+
+pub map_turn-requires-clause-free : goal.map_turn-requires-clause-free
+map_turn-requires-clause-free g c =
+    map-free c.args.self.now (g.St.Storage.view c.args.st.now) c.requires.fit.0 c.args.cpu _ _ _ _ _ c.requires.fit.1 (subst (λ op. Starts c.args.self.now c.args.cpu op) c.in-MapFile.is c.requires.starts)
+
+pub start_mapped-requires-clause-process : goal.start_mapped-requires-clause-process
+start_mapped-requires-clause-process g c =
+    process-below c.args.self.now (g.St.Storage.view c.args.st.now) c.requires.fit.0 c.args.cpu c.requires.fit.1
+
+pub start_mapped-requires-clause-map : goal.start_mapped-requires-clause-map
+start_mapped-requires-clause-map g c =
+    (load-piece c.args.self.now (g.St.Storage.view c.args.st.now) c.requires.fit.0 c.args.cpu _ _ _ c.requires.fit.1 (subst (λ op. Starts c.args.self.now c.args.cpu op) c.in-Load.is c.requires.starts).has).0
+
+pub start_mapped-requires-clause-reaches : goal.start_mapped-requires-clause-reaches
+start_mapped-requires-clause-reaches g c =
+    λ slot found. rw c.in-Load.is (load_reaches (flat_of c.args.self.now.plan c.args.self.now.journal) c.args.self.now (g.St.Storage.view c.args.st.now) c.requires.fit.0 c.args.cpu _ _ _ slot c.requires.fit.1 (subst (λ op. Starts c.args.self.now c.args.cpu op) c.in-Load.is c.requires.starts) found)
+
+pub start_mapped-requires-in-Store-clause-process : goal.start_mapped-requires-in-Store-clause-process
+start_mapped-requires-in-Store-clause-process g c =
+    process-below c.args.self.now (g.St.Storage.view c.args.st.now) c.requires.fit.0 c.args.cpu c.requires.fit.1
+
+pub start_mapped-requires-in-Store-clause-map : goal.start_mapped-requires-in-Store-clause-map
+start_mapped-requires-in-Store-clause-map g c =
+    (store-piece c.args.self.now (g.St.Storage.view c.args.st.now) c.requires.fit.0 c.args.cpu _ _ _ c.requires.fit.1 (subst (λ op. Starts c.args.self.now c.args.cpu op) c.in-Store.is c.requires.starts).has).0
+
+pub start_mapped-requires-in-Store-clause-reaches : goal.start_mapped-requires-in-Store-clause-reaches
+start_mapped-requires-in-Store-clause-reaches g c =
+    λ slot found. rw c.in-Store.is (store_reaches (flat_of c.args.self.now.plan c.args.self.now.journal) c.args.self.now (g.St.Storage.view c.args.st.now) c.requires.fit.0 c.args.cpu _ _ _ slot c.requires.fit.1 (subst (λ op. Starts c.args.self.now c.args.cpu op) c.in-Store.is c.requires.starts) found)
+
+pub returns-in-Read : goal.returns-in-Read
+returns-in-Read g c =
+    record { row = subst (λ program. DoesAlone g.St.Storage.step program c.args.st.now (c.start_tagged.new.self, c.start_tagged.result) c.start_tagged.new.st) (sym (accepted-read c.args.self.now c.args.cpu c.args.op.now _ _ _ c.in-Read.is)) c.start_tagged.ensures.row }
+
+pub returns-in-MapFile : goal.returns-in-MapFile
+returns-in-MapFile g c =
+    record { row = subst (λ program. DoesAlone g.St.Storage.step program c.args.st.now (c.map_turn.new.self, c.map_turn.result) c.args.st.now) (sym (accepted-map c.args.self.now c.args.cpu c.args.op.now _ _ _ _ _ c.in-MapFile.is ∙ c.map_turn.ensures.row)) (refl, refl, refl) }
+
+pub returns-in-Load : goal.returns-in-Load
+returns-in-Load g c =
+    record { row = subst (λ program. DoesAlone g.St.Storage.step program c.args.st.now (c.start_mapped.new.self, c.start_mapped.result) c.start_mapped.new.st) (sym (accepted-load c.args.self.now c.args.cpu c.args.op.now _ _ _ c.in-Load.is)) c.start_mapped.ensures.row }
+
+pub returns-in-Store : goal.returns-in-Store
+returns-in-Store g c =
+    record { row = subst (λ program. DoesAlone g.St.Storage.step program c.args.st.now (c.start_mapped-in-Store.new.self, c.start_mapped-in-Store.result) c.start_mapped-in-Store.new.st) (sym (accepted-store c.args.self.now c.args.cpu c.args.op.now _ _ _ c.in-Store.is)) c.start_mapped-in-Store.ensures.row }

@@ -1,0 +1,47 @@
+// Why commands are refused.
+ghost use Rattle.std.specs.Prelude.{◌≡◌, ◌<◌};
+ghost use Rattle.cmm_types.specs.declared.command.TheConstants.{MAX_MAPPING_NUMBERS};
+ghost use Rattle.cmm_types.specs.declared.plan.TheConstants.{MAX_PROCESSES};
+ghost use Rattle.cmm_types.specs.InRange.{IsPiece};
+ghost use Rattle.guest_maps.specs.MapsView.{find_slot};
+ghost use Rattle.guest_rules.specs.Turns.{refusal_at};
+ghost use Rattle.guest_core.specs.Between.{refusal_by_spot};
+
+use cmm_types::{FlatRefusal, PAGE};
+use guest_maps::{Maps, Spot};
+
+/// Why the bytes at a place of a mapping can't be reached; all of them lie in the place's page.
+fn refusal_by_spot(writes: bool, spot: Option<Spot>) -> Option<FlatRefusal>
+    ensures { result ≡ refusal_by_spot writes spot }
+{
+    match spot {
+        None => Some(FlatRefusal::OutOfRange),
+        Some(spot) => {
+            if writes && !spot.writable {
+                Some(FlatRefusal::ReadOnly)
+            } else {
+                None
+            }
+        }
+    }
+}
+
+/// Why `len` bytes from `off` on of a process's mapping can't be loaded, or be stored where it `writes`.
+pub fn refusal_at(
+    maps: &Maps,
+    writes: bool,
+    process: u32,
+    map: u32,
+    off: u32,
+    len: u32,
+) -> Option<FlatRefusal>
+    requires process { process < MAX_PROCESSES }
+    requires map { map < MAX_MAPPING_NUMBERS }
+    requires piece { IsPiece off len }
+    ensures { result ≡ refusal_at maps.now writes off len (find_slot maps.now process map) }
+{
+    match maps.find(process, map) {
+        None => Some(FlatRefusal::NoMapping),
+        Some(slot) => refusal_by_spot(writes, maps.spot(slot, off / PAGE as u32)),
+    }
+}

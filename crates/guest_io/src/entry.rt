@@ -1,0 +1,118 @@
+// Bytes through an entry that shows their page.
+ghost use Rattle.std.specs.Prelude.{◌≡◌, ◌<◌, ◌≤◌, ◌+◌, length, None, Some, Err, true, false, Contains, IfSome};
+ghost use Rattle.cmm_types.specs.declared.page.TheConstants.{PAGE};
+ghost use Rattle.cmm_types.specs.declared.bytes.TheConstants.{MAX_BYTES};
+ghost use Rattle.essa_state.specs.StateWord.{is_unused};
+ghost use Rattle.cmm_storage.specs.StorageView.{can_store};
+ghost use Rattle.cmm_storage.specs.Program.{DoesAlone};
+ghost use Rattle.guest_pages.specs.PagesView.{info_at};
+ghost use Rattle.guest_cache.specs.CacheView.{IsTag};
+ghost use Rattle.guest_rules.specs.Rows.{touch_missed, load_page, store_through};
+
+use crate::read::fetch;
+use cmm_storage::{Busy, Storage, Trap};
+use cmm_types::{Bytes64, Cause, Why};
+use guest_hint::discard_handler;
+use guest_rules::{Missed, Parts};
+
+/// The touch of the held page failed: a page that was discarded goes through its handler. The page is given back.
+#[tactic(auto, using(cmm_storage::specs::Runs::runs))]
+fn miss<R, St: Storage>(parts: &mut Parts, st: &mut St, page: u32, trap: Trap) -> Result<R, Missed>
+    requires page { page < length parts.old.pages.infos }
+    requires not_free { Contains parts.old.pages.free page → ⊥ }
+    requires tag { IfSome (info_at parts.old.pages page).tag (λ tag. IsTag parts.old.cache tag) }
+    requires shown { page < parts.old.maps.pages }
+    requires held { (St.view st.old).held ≡ Some page }
+    ensures row { DoesAlone St.step (touch_missed page parts.old trap) st.old (parts.new, result) st.new }
+    ensures none_held { (St.view st.new).held ≡ None }
+{
+    match trap {
+        Trap::Discarded => {
+            discard_handler(parts, st, page);
+            st.put(page);
+            Err(Missed::Gone)
+        }
+        Trap::Paging => {
+            st.put(page);
+            Err(Missed::Fail(Cause::Paging))
+        }
+        Trap::NoFrame { looks } => {
+            st.put(page);
+            Err(Missed::Again {
+                why: Why::NoFrame { looks },
+            })
+        }
+    }
+}
+
+/// Loads up to 64 bytes through an entry that shows the page, from `off` on. All of them lie in the page.
+#[tactic(auto, using(cmm_storage::specs::Runs::runs), unfolding(guest_rules::specs::Rows::load_page))]
+pub fn load_page<St: Storage>(
+    parts: &mut Parts,
+    st: &mut St,
+    page: u32,
+    off: u32,
+    len: u32,
+) -> Result<Bytes64, Missed>
+    requires page { page < length parts.old.pages.infos }
+    requires pages { page < (St.view st.old).pages }
+    requires not_free { Contains parts.old.pages.free page → ⊥ }
+    requires tag { IfSome (info_at parts.old.pages page).tag (λ tag. IsTag parts.old.cache tag) }
+    requires shown { page < parts.old.maps.pages }
+    requires used { is_unused ((St.view st.old).values page).usage ≡ false }
+    requires none_held { (St.view st.old).held ≡ None }
+    requires few { len ≤ MAX_BYTES }
+    requires within { off + len ≤ PAGE }
+    ensures row { DoesAlone St.step (load_page parts.old page off len) st.old (parts.new, result) st.new }
+    ensures none_held { (St.view st.new).held ≡ None }
+{
+    match st.take(page) {
+        Err(Busy { word }) => Err(Missed::Again {
+            why: Why::Busy { page, word },
+        }),
+        Ok(()) => match st.touch(page) {
+            Err(trap) => miss(parts, st, page, trap),
+            Ok(()) => {
+                let bytes = fetch(st, page, off, len);
+                st.put(page);
+                Ok(bytes)
+            }
+        },
+    }
+}
+
+/// Stores up to 64 bytes through a writable entry that shows the page, from `off` on. All of them lie in the page,
+/// whose change bit is set then.
+#[tactic(auto, using(cmm_storage::specs::Runs::runs), unfolding(guest_rules::specs::Rows::store_through))]
+pub fn store_through<St: Storage>(
+    parts: &mut Parts,
+    st: &mut St,
+    page: u32,
+    off: u32,
+    bytes: &Bytes64,
+) -> Result<(), Missed>
+    requires page { page < length parts.old.pages.infos }
+    requires pages { page < (St.view st.old).pages }
+    requires not_free { Contains parts.old.pages.free page → ⊥ }
+    requires tag { IfSome (info_at parts.old.pages page).tag (λ tag. IsTag parts.old.cache tag) }
+    requires shown { page < parts.old.maps.pages }
+    requires writable { can_store ((St.view st.old).values page).usage ≡ true }
+    requires none_held { (St.view st.old).held ≡ None }
+    requires within { off + length bytes.now ≤ PAGE }
+    ensures row { DoesAlone St.step (store_through parts.old page off bytes.now) st.old (parts.new, result) st.new }
+    ensures none_held { (St.view st.new).held ≡ None }
+{
+    match st.take(page) {
+        Err(Busy { word }) => Err(Missed::Again {
+            why: Why::Busy { page, word },
+        }),
+        Ok(()) => match st.touch(page) {
+            Err(trap) => miss(parts, st, page, trap),
+            Ok(()) => {
+                st.store(page, off as usize, bytes.as_slice());
+                st.put(page);
+                Ok(())
+            }
+        },
+    }
+}
