@@ -1,7 +1,7 @@
 -- Digits up to some place of a word.
 use Rattle.std.proofs.Common.{◌≡◌, ℕ, zero, suc, ◌+◌, ◌-◌, ◌*◌, ◌^◌, ◌<◌, ◌≤◌, Bool, true, false, List, [], ◌∷◌, length, get_or, take, refl, sym, ◌∙◌, arith}
 use Rattle.std.specs.Prelude.{◌&&◌, not, nat_eq, nat_le, nat_lt}
-use Rattle.std.proofs.lemmas.Bool.{leb-true, le-ltb, lt-ltb}
+use Rattle.std.proofs.lemmas.Bool.{and_from, and_parts, leb-true, le-ltb, lt-ltb}
 use Rattle.std.proofs.lemmas.List.{length-take}
 use Rattle.cmm_scenario.specs.Words.{has_number_size}
 use Rattle.std.specs.Char.{is_ascii_digit, digit_value}
@@ -10,17 +10,6 @@ use Rattle.std.specs.Str.Parse.{digits_value}
 use Rattle.std.proofs.lemmas.Str.Parse.{numerals_by_value, tells_all_ascii_digits, digits_value_short}
 use Rattle.std.proofs.lemmas.Int.Digits.{digits_value_more}
 
-both : (a b : Bool) → a ≡ true → b ≡ true → (a && b) ≡ true
-both a b p q = rw (p, q) refl
-
-first_of : (a b : Bool) → (a && b) ≡ true → a ≡ true
-first_of true b p = refl
-first_of false b p = absurd cc
-
-second_of : (a b : Bool) → (a && b) ≡ true → b ≡ true
-second_of true b p = p
-second_of false b p = absurd cc
-
 second_fails : (a b : Bool) → b ≡ false → (a && b) ≡ false
 second_fails true b p = p
 second_fails false b p = refl
@@ -28,10 +17,10 @@ second_fails false b p = refl
 -- one more digit
 pub all_ascii_digits-take : (ds : List ℕ) (i : ℕ) → i < length ds → all_ascii_digits (take i ds) ≡ true → is_ascii_digit (get_or ds i 0) ≡ true → all_ascii_digits (take (suc i) ds) ≡ true
 all_ascii_digits-take [] i lt front here = absurd (omega arith)
-all_ascii_digits-take (d ∷ ds) zero lt front here = both (is_ascii_digit d) true here refl
+all_ascii_digits-take (d ∷ ds) zero lt front here = and_from (is_ascii_digit d) true here refl
 all_ascii_digits-take (d ∷ ds) (suc i) lt front here =
-    both (is_ascii_digit d) (all_ascii_digits (take (suc i) ds)) (first_of (is_ascii_digit d) (all_ascii_digits (take i ds)) front)
-    (all_ascii_digits-take ds i (omega arith) (second_of (is_ascii_digit d) (all_ascii_digits (take i ds)) front) here)
+    and_from (is_ascii_digit d) (all_ascii_digits (take (suc i) ds)) (and_parts (is_ascii_digit d) (all_ascii_digits (take i ds)) front).0
+    (all_ascii_digits-take ds i (omega arith) (and_parts (is_ascii_digit d) (all_ascii_digits (take i ds)) front).1 here)
 
 -- a byte that is no digit
 pub all_ascii_digits-fails : (ds : List ℕ) (i : ℕ) → i < length ds → is_ascii_digit (get_or ds i 0) ≡ false → all_ascii_digits ds ≡ false
@@ -46,11 +35,11 @@ pub has_number_size-short : (ds : List ℕ) → has_number_size ds ≡ true → 
 has_number_size-short [] sized = omega arith
 has_number_size-short (d ∷ []) sized = omega arith
 has_number_size-short (d ∷ e ∷ ds) sized =
-    let few : length (e ∷ ds) ≤ 9 = leb-true _ _ (second_of (not (nat_eq d 48)) (nat_le (length (e ∷ ds)) 9) sized) in
+    let few : length (e ∷ ds) ≤ 9 = leb-true _ _ (and_parts (not (nat_eq d 48)) (nat_le (length (e ∷ ds)) 9) sized).1 in
     omega arith
 
 pub digit_range : (d : ℕ) → is_ascii_digit d ≡ true → (48 ≤ d) × (d ≤ 57)
-digit_range d h = (leb-true _ _ (first_of (nat_le 48 d) (nat_le d 57) h), leb-true _ _ (second_of (nat_le 48 d) (nat_le d 57) h))
+digit_range d h = let parts = and_parts (nat_le 48 d) (nat_le d 57) h in (leb-true _ _ parts.0, leb-true _ _ parts.1)
 
 -- the digits before some place
 pub digits_value_front : (ds : List ℕ) (i : ℕ) → all_ascii_digits (take i ds) ≡ true → length ds ≤ 10 → digits_value 10 (take i ds) < 10 ^ 10

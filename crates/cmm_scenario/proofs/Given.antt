@@ -36,14 +36,6 @@ pub ok_or-Some : {A E : Type 0} (o : Option A) (e : E) (x : A) → ok_or o e ≡
 ok_or-Some None e x h = absurd cc
 ok_or-Some (Some y) e x h = cc
 
-pub and_first : (a b : Bool) → (a && b) ≡ true → a ≡ true
-and_first true b h = refl
-and_first false b h = absurd cc
-
-pub and_second : (a b : Bool) → (a && b) ≡ true → b ≡ true
-and_second true b h = h
-and_second false b h = absurd cc
-
 pub All-cons : {A : Type 0} (P : A → Type 0) (x : A) (xs : List A) → P x → All P xs → All P (x ∷ xs)
 All-cons P x xs p ps zero d lt = p
 All-cons P x xs p ps (suc k) d lt = ps k d (omega arith)

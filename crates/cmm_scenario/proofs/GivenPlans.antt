@@ -1,7 +1,7 @@
 -- A plan that is read is in all its ranges.
 use Rattle.std.proofs.Common.{ℕ, ◌*◌, ◌≤◌, List, [], ◌∷◌, length, Option, Some, None, Result, Ok, Err, subst, arith}
 use Rattle.std.specs.Prelude.{◌&&◌, nat_le, sum_by, codes, IfOk}
-use Rattle.std.proofs.lemmas.Bool.{leb-true}
+use Rattle.std.proofs.lemmas.Bool.{and_parts, leb-true}
 use Rattle.hex.specs.Hex.{decode_of}
 use Rattle.serde_json.specs.Data.{Data}
 use Rattle.cmm_types.specs.declared.page.TheConstants.{PAGE}
@@ -15,7 +15,7 @@ use Rattle.cmm_scenario.specs.Faults.{here, inside, at_root, Gives}
 use Rattle.cmm_scenario.specs.Tree.{number, known_keys, member_of, member_or, list_of}
 use Rattle.cmm_scenario.specs.Plans.{text_of, head_of, file_of, command_of, cpu_of, fails_of, guest_keys, guest_of, totals_of, guests_of, schedule_event_of, schedule_of, scenario_keys, plan_of}
 use Rattle.cmm_scenario.specs.Scenario.{tree_of, scenario_of_tree, scenario_of}
-use Rattle.cmm_scenario.proofs.Given.{Given, given_next, given_any, given_map, given_checked, and_first, and_second}
+use Rattle.cmm_scenario.proofs.Given.{Given, given_next, given_any, given_map, given_checked}
 use Rattle.cmm_scenario.proofs.GivenWords.{Between, op-given, event-given}
 use Rattle.cmm_scenario.proofs.GivenTrees.{here-given, inside-given, Reads, member-given, member_or-given, number-given, IsList, list-given}
 
@@ -78,7 +78,7 @@ unfolding totals_of
 totals-given guests =
     let pages = sum_by (λ (guest : GuestPlan). guest.pages) guests in
     let blocks = sum_by blocks_of guests in
-    given_checked (InTotals guests) (nat_le pages 65536 && nat_le blocks 65536) tt Total (λ t. (leb-true pages 65536 (and_first (nat_le pages 65536) (nat_le blocks 65536) t), leb-true blocks 65536 (and_second (nat_le pages 65536) (nat_le blocks 65536) t)))
+    given_checked (InTotals guests) (nat_le pages 65536 && nat_le blocks 65536) tt Total (λ t. (leb-true pages 65536 (and_parts (nat_le pages 65536) (nat_le blocks 65536) t).0, leb-true blocks 65536 (and_parts (nat_le pages 65536) (nat_le blocks 65536) t).1))
 
 guests-given : Reads GuestsInRange guests_of
 unfolding guests_of

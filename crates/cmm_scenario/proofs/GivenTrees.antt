@@ -2,7 +2,7 @@
 use Rattle.std.proofs.Common.{◌≡◌, ℕ, suc, ◌≤◌, List, [], ◌∷◌, length, Option, Some, None, Result, Ok, Err, refl, arith}
 use Rattle.std.specs.Prelude.{◌&&◌, nat_le, decimal, All}
 use Rattle.std.specs.Option.{ok_or}
-use Rattle.std.proofs.lemmas.Bool.{leb-true}
+use Rattle.std.proofs.lemmas.Bool.{and_parts, leb-true}
 use Rattle.serde_json.specs.Data.{Data}
 use Rattle.serde_json.specs.Find.{get, as_array}
 use Rattle.cmm_scenario.specs.declared.fault.Kind.{Kind}
@@ -11,7 +11,7 @@ use Rattle.cmm_scenario.specs.declared.error.ScenarioError.{ScenarioError}
 use Rattle.cmm_scenario.specs.Outcome.{checked}
 use Rattle.cmm_scenario.specs.Faults.{here, inside}
 use Rattle.cmm_scenario.specs.Tree.{whole_number, number_in, number, required, optional, member_of, member_or, trees_of, each_from, list_of}
-use Rattle.cmm_scenario.proofs.Given.{Given, given_next, given_any, given_map, given_checked, and_first, and_second, All-cons}
+use Rattle.cmm_scenario.proofs.Given.{Given, given_next, given_any, given_map, given_checked, All-cons}
 use Rattle.cmm_scenario.proofs.GivenWords.{Between, within-given}
 
 pub here-given : {A : Type 0} (P : A → Type 0) (r : Result A Kind) → Given P r → Given P (here r)
@@ -76,5 +76,5 @@ list-given P low high read h tree =
     let count = length (trees_of items) in
     let fits = nat_le low count && nat_le count high in
     given_next (λ trees. Between low high (length trees)) (IsList P low high) (here (checked fits (trees_of items) Range)) _
-    (here-given (λ trees. Between low high (length trees)) (checked fits (trees_of items) Range) (given_checked (λ trees. Between low high (length trees)) fits (trees_of items) Range (λ t. (leb-true low count (and_first (nat_le low count) (nat_le count high) t), leb-true count high (and_second (nat_le low count) (nat_le count high) t)))))
+    (here-given (λ trees. Between low high (length trees)) (checked fits (trees_of items) Range) (given_checked (λ trees. Between low high (length trees)) fits (trees_of items) Range (λ t. (leb-true low count (and_parts (nat_le low count) (nat_le count high) t).0, leb-true count high (and_parts (nat_le low count) (nat_le count high) t).1))))
     (λ trees b. given_map (AreItems P (length trees)) (IsList P low high) (each_from 0 read trees) (λ xs ps. record { some = omega (arith, b.0, ps.len); few = omega (arith, b.1, ps.len); each = ps.each }) (each-given P read h 0 trees)))

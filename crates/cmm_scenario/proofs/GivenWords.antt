@@ -3,7 +3,7 @@ use Rattle.std.proofs.Common.{◌≡◌, ℕ, ◌+◌, ◌%◌, ◌<◌, ◌≤�
 use Rattle.std.specs.Prelude.{◌&&◌, nat_le, nat_lt, slice_get, codes}
 use Rattle.std.specs.Str.{bytes_eq}
 use Rattle.std.specs.Option.{ok_or}
-use Rattle.std.proofs.lemmas.Bool.{leb-true, ltb-true}
+use Rattle.std.proofs.lemmas.Bool.{and_parts, leb-true, ltb-true}
 use Rattle.cmm_types.specs.declared.page.TheConstants.{PAGE}
 use Rattle.cmm_types.specs.declared.bytes.TheConstants.{MAX_BYTES}
 use Rattle.cmm_types.specs.declared.page.Move.{Move}
@@ -14,23 +14,23 @@ use Rattle.cmm_scenario.specs.declared.fault.Kind.TheVariants.{Range}
 use Rattle.cmm_scenario.specs.Words.{first_word, after_word, number_at, end_at, bytes_at, within}
 use Rattle.cmm_scenario.specs.Commands.{piece_of, read_of, write_of, sync_of, mode_at, mapfile_of, mapanon_of, unmap_of, load_of, store_of, page_of, pin_of, unpin_of, op_named, op_of}
 use Rattle.cmm_scenario.specs.Events.{existing, pair_of, processor_of, guest_page_of, cpu_turn_of, alone_of, move_of, reclaim_of, event_named, event_of}
-use Rattle.cmm_scenario.proofs.Given.{Given, given_then, given_next, given_any, given_checked, given_if, ok_or-Some, and_first, and_second}
+use Rattle.cmm_scenario.proofs.Given.{Given, given_then, given_next, given_any, given_checked, given_if, ok_or-Some}
 
 abbrev pub Between : ℕ → ℕ → ℕ → Type 0
 Between low high n = (low ≤ n) × (n ≤ high)
 
 pub within-given : (low high n : ℕ) → Given (Between low high) (within low high n)
 unfolding within
-within-given low high n = given_checked (Between low high) (nat_le low n && nat_le n high) n Range (λ h. (leb-true low n (and_first (nat_le low n) (nat_le n high) h), leb-true n high (and_second (nat_le low n) (nat_le n high) h)))
+within-given low high n = given_checked (Between low high) (nat_le low n && nat_le n high) n Range (λ h. (leb-true low n (and_parts (nat_le low n) (nat_le n high) h).0, leb-true n high (and_parts (nat_le low n) (nat_le n high) h).1))
 
 is_piece : (start len : ℕ) → Between 0 4194303 start → (nat_le 1 len && nat_le len MAX_BYTES && nat_le (start % PAGE + len) PAGE) ≡ true → IsPiece start len
 is_piece start len within h =
-    let few : (nat_le 1 len && nat_le len MAX_BYTES) ≡ true = and_first (nat_le 1 len && nat_le len MAX_BYTES) (nat_le (start % PAGE + len) PAGE) h in
+    let few : (nat_le 1 len && nat_le len MAX_BYTES) ≡ true = (and_parts (nat_le 1 len && nat_le len MAX_BYTES) (nat_le (start % PAGE + len) PAGE) h).0 in
     record {
       start = omega (arith, within.1);
-      some = leb-true 1 len (and_first (nat_le 1 len) (nat_le len MAX_BYTES) few);
-      most = leb-true len MAX_BYTES (and_second (nat_le 1 len) (nat_le len MAX_BYTES) few);
-      within_page = leb-true (start % PAGE + len) PAGE (and_second (nat_le 1 len && nat_le len MAX_BYTES) (nat_le (start % PAGE + len) PAGE) h);
+      some = leb-true 1 len (and_parts (nat_le 1 len) (nat_le len MAX_BYTES) few).0;
+      most = leb-true len MAX_BYTES (and_parts (nat_le 1 len) (nat_le len MAX_BYTES) few).1;
+      within_page = leb-true (start % PAGE + len) PAGE (and_parts (nat_le 1 len && nat_le len MAX_BYTES) (nat_le (start % PAGE + len) PAGE) h).1;
     }
 
 piece-given : (off len : ℕ) → Given (λ start. IsPiece start len) (piece_of off len)

@@ -2,7 +2,7 @@
 use Rattle.std.proofs.Common.{◌≡◌, ◌≤◌, ◌+◌, ◌%◌, ℕ, Bool, true, false, List, [], ◌∷◌, ◌++◌, length, codes, Result, Ok, refl, arith}
 use Rattle.std.specs.Prelude.{◌&&◌, nat_le}
 use Rattle.std.specs.Fmt.{decimal}
-use Rattle.std.proofs.lemmas.Bool.{le-leb}
+use Rattle.std.proofs.lemmas.Bool.{and_from, le-leb}
 use Rattle.hex.specs.Hex.{encode_lower, IsBytes}
 use Rattle.cmm_types.specs.declared.page.TheConstants.{PAGE}
 use Rattle.cmm_types.specs.declared.bytes.TheConstants.{MAX_BYTES}
@@ -14,15 +14,15 @@ use Rattle.cmm_scenario.specs.declared.fault.Kind.TheVariants.{Range}
 use Rattle.cmm_scenario.specs.Words.{end_at}
 use Rattle.cmm_scenario.specs.Commands.{piece_of, read_of, write_of, sync_of, mode_at, mapfile_of, mapanon_of, unmap_of, load_of, store_of, page_of, pin_of, unpin_of, op_named, op_of}
 use Rattle.cmm_scenario.specs.Spelling.{spaced, mode_word, op_text, WritesBytes}
-use Rattle.cmm_scenario.proofs.SpelledWords.{then_ok, both, no_space, ends_word-spaced, first_word-append, after_word-append, word_at-append, number_at-spaced, bytes_at-spaced, checked-holds, within-is}
+use Rattle.cmm_scenario.proofs.SpelledWords.{then_ok, no_space, ends_word-spaced, first_word-append, after_word-append, word_at-append, number_at-spaced, bytes_at-spaced, checked-holds, within-is}
 
 piece_of-is : (off len : ℕ) → IsPiece off len → piece_of off len ≡ Ok off
 unfolding piece_of
 piece_of-is off len p =
     then_ok _ _ _ _ (within-is 0 4194303 off (omega arith) (omega (arith, p.start)))
     (checked-holds (nat_le 1 len && nat_le len MAX_BYTES && nat_le (off % PAGE + len) PAGE) off Range
-    (both (nat_le 1 len && nat_le len MAX_BYTES) (nat_le (off % PAGE + len) PAGE)
-    (both (nat_le 1 len) (nat_le len MAX_BYTES) (le-leb 1 len p.some) (le-leb len MAX_BYTES p.most))
+    (and_from (nat_le 1 len && nat_le len MAX_BYTES) (nat_le (off % PAGE + len) PAGE)
+    (and_from (nat_le 1 len) (nat_le len MAX_BYTES) (le-leb 1 len p.some) (le-leb len MAX_BYTES p.most))
     (le-leb (off % PAGE + len) PAGE p.within_page)))
 
 read_of-spelled : (file off len : ℕ) → file ≤ 63 → IsPiece off len → read_of (spaced (decimal file ∷ decimal off ∷ decimal len ∷ [])) ≡ Ok (Read file off len)

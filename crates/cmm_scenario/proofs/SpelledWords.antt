@@ -6,7 +6,7 @@ use Rattle.std.specs.Str.{all_ascii_digits}
 use Rattle.std.specs.Str.Parse.{digits_value}
 use Rattle.std.specs.Char.{is_ascii_digit}
 use Rattle.std.specs.Fmt.{decimal}
-use Rattle.std.proofs.lemmas.Bool.{cases_lt, le-ltb, lt-ltb, le-leb, ne_eqb}
+use Rattle.std.proofs.lemmas.Bool.{and_from, and_parts, cases_lt, le-ltb, lt-ltb, le-leb, ne_eqb}
 use Rattle.std.proofs.lemmas.List.{length-append}
 use Rattle.std.proofs.Math.Seq.{take-append_seam, drop-append_seam}
 use Rattle.std.proofs.lemmas.Str.Parse.{numerals_by_value, tells_all_ascii_digits}
@@ -17,15 +17,11 @@ use Rattle.cmm_scenario.specs.declared.fault.Kind.TheVariants.{Text, Range}
 use Rattle.cmm_scenario.specs.Outcome.{◌>>=◌, checked}
 use Rattle.cmm_scenario.specs.Words.{is_space, first_word, after_word, word_at, has_number_size, number_of, number_at, or_fault, bytes_of, bytes_at, within}
 use Rattle.cmm_scenario.specs.Spelling.{spaced}
-use Rattle.cmm_scenario.proofs.Given.{and_first, and_second}
 use Rattle.cmm_scenario.proofs.Digits.{digit_range}
 
 -- a step that gives a value, and what follows
 pub then_ok : {A B E : Type 0} (r : Result A E) (f : A → Result B E) (x : A) (y : Result B E) → r ≡ Ok x → f x ≡ y → (r >>= f) ≡ y
 then_ok r f x y e h = rw e h
-
-pub both : (a b : Bool) → a ≡ true → b ≡ true → (a && b) ≡ true
-both a b p q = rw (p, q) refl
 
 -- ---- words
 
@@ -45,8 +41,8 @@ space_place : (word rest : List ℕ) → no_space word ≡ true → ends_word re
 space_place [] [] plain ends = refl
 space_place [] (c ∷ cs) plain ends = rw ends refl
 space_place (c ∷ cs) rest plain ends =
-    let here : not (is_space c) ≡ true = and_first (not (is_space c)) (no_space cs) plain in
-    let later = space_place cs rest (and_second (not (is_space c)) (no_space cs) plain) ends in
+    let here : not (is_space c) ≡ true = (and_parts (not (is_space c)) (no_space cs) plain).0 in
+    let later = space_place cs rest (and_parts (not (is_space c)) (no_space cs) plain).1 ends in
     rw here (omega (arith, later))
 
 chosen : (a b : ℕ) → a ≤ b → unwrap_or (cond (nat_lt a b) (Some a) None) b ≡ a
@@ -81,9 +77,9 @@ word_at-append word rest plain ends =
 no_space-digits : (ds : List ℕ) → all_ascii_digits ds ≡ true → no_space ds ≡ true
 no_space-digits [] digits = refl
 no_space-digits (d ∷ ds) digits =
-    let range = digit_range d (and_first (is_ascii_digit d) (all_ascii_digits ds) digits) in
+    let range = digit_range d (and_parts (is_ascii_digit d) (all_ascii_digits ds) digits).0 in
     let other : nat_eq d 32 ≡ false = ne_eqb d 32 (λ e. omega (arith, range.0)) in
-    let later = no_space-digits ds (and_second (is_ascii_digit d) (all_ascii_digits ds) digits) in
+    let later = no_space-digits ds (and_parts (is_ascii_digit d) (all_ascii_digits ds) digits).1 in
     rw (other, later) refl
 
 sized : (ds : List ℕ) → 0 < length ds → length ds ≤ 10 → 48 < get_or ds 0 0 → has_number_size ds ≡ true
@@ -165,4 +161,4 @@ checked-holds b x e h = rw h refl
 
 pub within-is : (low high n : ℕ) → low ≤ n → n ≤ high → within low high n ≡ Ok n
 unfolding within
-within-is low high n least most = checked-holds (nat_le low n && nat_le n high) n Range (both (nat_le low n) (nat_le n high) (le-leb low n least) (le-leb n high most))
+within-is low high n least most = checked-holds (nat_le low n && nat_le n high) n Range (and_from (nat_le low n) (nat_le n high) (le-leb low n least) (le-leb n high most))

@@ -1,5 +1,5 @@
 -- What calls make of the pages of a noisy storage.
-use Rattle.std.specs.Prelude.{◌≡◌, ◌<◌, ℕ, List, length, true, false, replicate, slice_index_or, slice_set}
+use Rattle.std.specs.Prelude.{◌≡◌, ◌<◌, ℕ, List, length, true, false, Some, replicate, slice_index_or, slice_set}
 use Rattle.std.proofs.Common.{arith, ap, subst, inl, inr, ◌∙◌, get_or-set_other, get_or-set_same}
 use Rattle.std.proofs.Math.ListN.{length-set}
 use Rattle.std.proofs.lemmas.Bool.{cases_eq}
@@ -32,6 +32,19 @@ set_sound s page new sound below value same = record {
   ];
   values = λ k. elim (cases_eq k page) [
     | inl e ↦ rw (e, get_or-set_same s.pages page new opening_value below) value
+    | inr other ↦ rw get_or-set_other (sound.values k)
+  ];
+}
+
+-- a noisy storage whose page was taken, with the value that it was found with
+pub taken_sound : (s : NoisyState) (page : ℕ) (new : PageValue) → IsSound s → page < length s.pages → IsValue new →
+    IsSound (record s { pages = slice_set s.pages page new; held = Some page; touched = false })
+taken_sound s page new sound there value = record {
+  few = simp length-set sound.few;
+  below = λ k held. let same : page ≡ k = cc in simp length-set (subst (λ (i : ℕ). i < length s.pages) same there);
+  bytes = λ k held touched. absurd cc;
+  values = λ k. elim (cases_eq k page) [
+    | inl e ↦ rw (e, get_or-set_same s.pages page new opening_value there) value
     | inr other ↦ rw get_or-set_other (sound.values k)
   ];
 }

@@ -1,9 +1,10 @@
 // A page of a noisy storage.
-ghost use Rattle.std.specs.Prelude.{◌≡◌, ◌+◌, ◌≤◌, length, take, drop, true, false, IfOk};
+ghost use Rattle.std.specs.Prelude.{◌≡◌, ◌+◌, ◌<◌, ◌≤◌, length, take, drop, true, false, IfOk};
 ghost use Rattle.cmm_types.specs.declared.page.TheConstants.{PAGE};
 ghost use Rattle.cmm_types.specs.declared.page.Content.TheVariants.{Resident};
+ghost use Rattle.essa_state.specs.declared.fields.TheConstants.{LAST_COUNT};
 ghost use Rattle.essa_state.specs.StateWord.{is_zero};
-ghost use Rattle.essa_state.specs.PageValue.{Bytes, IsValue, OrderStep, MayBecome, is_lost};
+ghost use Rattle.essa_state.specs.PageValue.{Bytes, IsValue, OrderStep, MayBecome, is_lost, may_lose};
 ghost use Rattle.cmm_storage.specs.StorageView.{IsBusyWord, IsWhole, bytes_of, has_bytes, stored_value, touched_contents, zeros};
 ghost use Rattle.cmm_storage.specs.NoisyState.{opening_value};
 
@@ -72,9 +73,10 @@ impl NoisyPage {
         Word::new(fields).raw()
     }
 
-    /// Discards the page, where its host may.
+    /// Discards the page, where its host may and the count of discards isn't at its end.
     pub fn discard(&mut self)
-        ensures { MayBecome self.old self.new }
+        ensures allowed { MayBecome self.old self.new }
+        ensures lost { may_lose self.old.usage self.old.changed ≡ true → self.old.count < LAST_COUNT → is_lost self.new.contents ≡ true }
     {
         if let Ok(word) = host_move(self.word, Move::Discard) {
             self.word = word;

@@ -15,22 +15,26 @@ pub const MAX_MAPPING_PAGES: u32 = 1024;
 pub const MAX_OFFSETS: u32 = 4_194_304;
 
 /// A command of a guest's processor. Offsets and lengths are in bytes, `first`, `count` and `page` in pages.
-/// A mapping's number `map` belongs to the processor's process.
+/// A mapping's number `map` belongs to the processor's process. The bytes that a command reaches lie in one page.
 #[derive(Debug, PartialEq, Eq, Drop)]
 pub enum Op {
+    /// Reads bytes of a file.
     Read {
         file: u32,
         off: u32,
         len: u32,
     },
+    /// Writes bytes of a file.
     Write {
         file: u32,
         off: u32,
         bytes: Bytes64,
     },
+    /// Writes a file's changed pages to the disk.
     Sync {
         file: u32,
     },
+    /// Maps `count` pages of a file, from page `first` on.
     MapFile {
         map: u32,
         file: u32,
@@ -38,27 +42,33 @@ pub enum Op {
         count: u32,
         writable: bool,
     },
+    /// Maps `count` pages of zeros, which are the mapping's own.
     MapAnon {
         map: u32,
         count: u32,
     },
+    /// Ends a mapping.
     Unmap {
         map: u32,
     },
+    /// Reads bytes through a mapping.
     Load {
         map: u32,
         off: u32,
         len: u32,
     },
+    /// Writes bytes through a mapping.
     Store {
         map: u32,
         off: u32,
         bytes: Bytes64,
     },
+    /// Keeps a page of a mapping in memory.
     Pin {
         map: u32,
         page: u32,
     },
+    /// Ends that.
     Unpin {
         map: u32,
         page: u32,
@@ -96,9 +106,11 @@ pub enum Cause {
     NoPage { pinned: u32, unslotted: u32 },
 }
 
+/// What a command is answered.
 #[derive(Debug, PartialEq, Eq, Drop)]
 pub enum Reply {
     Done,
+    /// The bytes that were read.
     Bytes(Bytes64),
     Refused(FlatRefusal),
     Fail(Cause),

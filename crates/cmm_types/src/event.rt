@@ -20,10 +20,13 @@ pub enum Event {
 /// What became of an event.
 #[derive(Clone, Copy, Debug, PartialEq, Eq)]
 pub enum Answer {
+    /// Of one turn.
     Turn(Turn),
+    /// Of the turns of a processor that went on alone.
     Alone(Alone),
     /// The host move was made.
     HostDone,
+    /// The host move wasn't allowed, and nothing changed.
     HostRefused(Refused),
     /// A call on the host's own pager failed.
     HostPaging,

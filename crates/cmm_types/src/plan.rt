@@ -2,12 +2,16 @@ use crate::command::Op;
 use crate::event::Event;
 use crate::items::Items;
 
+/// The most guests of a scenario; a guest's number is below it. This limit and those below are this project's own.
 pub const MAX_GUESTS: u32 = 16;
 
+/// The most processors of a guest; a processor's number is below it.
 pub const MAX_CPUS: u32 = 8;
 
+/// A process's number is below it.
 pub const MAX_PROCESSES: u32 = 8;
 
+/// The most threads by which a host reclaims.
 pub const MAX_RECLAIMERS: u32 = 8;
 
 /// The most pages of one guest.
@@ -16,6 +20,7 @@ pub const MAX_GUEST_PAGES: u32 = 4096;
 /// The most pages of all guests together.
 pub const MAX_TOTAL_PAGES: u32 = 65_536;
 
+/// The most frames of a host.
 pub const MAX_FRAMES: u32 = 65_536;
 
 /// The most file pages and swap slots of all guests together.
@@ -33,6 +38,7 @@ pub const MAX_MAPPING_SLOTS: u32 = 264;
 /// The most commands of a processor.
 pub const MAX_COMMANDS: u32 = 10_000;
 
+/// The most events of a schedule.
 pub const MAX_EVENTS: u32 = 1_000_000;
 
 /// The most numbers in one list of planned failing calls.
@@ -45,6 +51,7 @@ pub struct FilePlan {
     pub head: Items<u8>,
 }
 
+/// A processor: the process that it runs in, and its commands in order.
 #[derive(Debug, Drop)]
 pub struct CpuPlan {
     pub process: u32,
@@ -63,7 +70,8 @@ pub struct GuestPlan {
     pub cpus: Items<CpuPlan>,
 }
 
-/// A whole scenario. `pager_fail` is of the host's own pager, and of each reclaimer's.
+/// A whole scenario: the host's frames and reclaimers, the guests, and the schedule. `pager_fail` has the numbers of
+/// the calls that fail, from 1, on the host's own pager and on each reclaimer's.
 #[derive(Debug, Drop)]
 pub struct Scenario {
     pub frames: u32,

@@ -26,7 +26,10 @@ pub enum Turn {
 /// moved, and the one that finished.
 #[derive(Clone, Copy, Debug, PartialEq, Eq)]
 pub enum Alone {
+    /// The command has its reply.
     Finished { turns: u32 },
+    /// The page is locked by processor `owner`.
     Waits { turns: u32, page: u32, owner: u32 },
+    /// The processor has no command left.
     Idle,
 }

@@ -167,7 +167,7 @@ impl Maps {
         self.slots.live()
     }
 
-    /// A page of a mapping is pinned.
+    /// Whether a page of a mapping is pinned.
     pub fn pinned(&self, slot: u32, index: u32) -> bool
         requires { IsPlace self.now slot index }
         ensures { result ≡ pinned_at self.now slot index }
@@ -175,6 +175,7 @@ impl Maps {
         self.pins.at(place(slot, index))
     }
 
+    /// Pins a page of a mapping, or unpins it.
     #[tactic(auto, unfolding(crate::specs::MapsView::with_pinned))]
     pub fn set_pinned(&mut self, slot: u32, index: u32, pinned: bool)
         requires { IsPlace self.old slot index }
@@ -183,7 +184,7 @@ impl Maps {
         self.pins.set(place(slot, index), pinned);
     }
 
-    /// Some page of the mapping in a slot is pinned.
+    /// Whether some page of the mapping in a slot is pinned.
     pub fn any_pinned(&self, slot: u32) -> bool
         requires { slot < length self.now.slots }
         ensures { result ≡ any_pinned self.now slot }

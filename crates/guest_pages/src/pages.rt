@@ -51,6 +51,7 @@ impl Pages {
         self.infos.len() as u32
     }
 
+    /// What the guest knows of a page.
     pub fn info(&self, page: u32) -> PageInfo
         requires { page < length self.now.infos }
         ensures { result ≡ info_at self.now page }
@@ -152,6 +153,7 @@ impl Pages {
         info.writers = writers;
     }
 
+    /// Sets all that the guest knows of a page; the setters above set one word of it.
     #[tactic(auto, unfolding(crate::specs::PagesView::with_info))]
     pub fn set_info(&mut self, page: u32, info: PageInfo)
         requires { page < length self.old.infos }

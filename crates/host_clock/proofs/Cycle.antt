@@ -3,7 +3,8 @@ use Rattle.std.proofs.Common.{◌≡◌, ℕ, suc, ◌+◌, ◌-◌, ◌<◌, �
 use Rattle.std.specs.List.{list_any, position_or_len}
 use Rattle.std.specs.Option.{option_or, option_map}
 use Rattle.std.proofs.lemmas.List.{take-append-drop, take_all, length-drop}
-use Rattle.std.proofs.lemmas.Bool.{cases_lt}
+use Rattle.std.proofs.lemmas.Bool.{and_parts, cases_lt}
+use Rattle.std.proofs.Math.Bool.{or_comm}
 use Rattle.std.proofs.lemmas.List.Quantifiers.{position-Some}
 use Rattle.std.proofs.lemmas.List.{places}
 use Rattle.std.proofs.lemmas.Grind.{common_steps}
@@ -21,16 +22,6 @@ found_behind p x = grind arith
 
 found_first : (x : ℕ) → is_some {T = ℕ} (cond (nat_lt 0 (suc x)) (Some 0) None) ≡ true
 found_first x = grind arith
-
-either_order : (a b : Bool) → (a || b) ≡ (b || a)
-either_order true true = refl
-either_order true false = refl
-either_order false true = refl
-either_order false false = refl
-
-both_first : (a b : Bool) → (a && b) ≡ true → a ≡ true
-both_first true b h = refl
-both_first false b h = h
 
 either_true : (a : Bool) → (a || true) ≡ true
 either_true true = refl
@@ -70,7 +61,7 @@ position-found {X} p (x ∷ xs) =
 -- some word of the cycle passes exactly where some word does
 pub any_from_hand : (p : Fields → Bool) (words : List Fields) (hand : ℕ) → list_any p (from_hand words hand) ≡ list_any p words
 any_from_hand p words hand =
-    list_any-append p (drop hand words) (take hand words) ∙ either_order (list_any p (drop hand words)) (list_any p (take hand words)) ∙ sym (list_any-append p (take hand words) (drop hand words)) ∙ ap (list_any p) (take-append-drop hand words)
+    list_any-append p (drop hand words) (take hand words) ∙ or_comm (list_any p (drop hand words)) (list_any p (take hand words)) ∙ sym (list_any-append p (take hand words) (drop hand words)) ∙ ap (list_any p) (take-append-drop hand words)
 
 -- where an unreferenced page may be taken, some candidate is there
 pub takeable_any : (xs : List Fields) → (list_any (is_takeable false) xs || list_any (is_takeable true) xs) ≡ list_any is_candidate xs
@@ -91,7 +82,7 @@ around words hand k d held within =
 -- whatever may be taken is a candidate
 pub takeable_candidate : (in_need : Bool) (word : Fields) → is_takeable in_need word ≡ true → is_candidate word ≡ true
 takeable_candidate true word h = h
-takeable_candidate false word h = both_first (is_candidate word) (not word.referenced) h
+takeable_candidate false word h = (and_parts (is_candidate word) (not word.referenced) h).0
 
 -- what may be taken at the first place found is a candidate
 pub place_candidate : (in_need : Bool) (words : List Fields) (hand : ℕ) (first : Option ℕ) → hand < length words → IfSome first (λ steps. steps < length words) → first ≡ position (is_takeable in_need) (from_hand words hand) → IfSome first (λ steps. (d : Fields) → is_candidate (get_or words (wrapped (length words) (hand + steps)) d) ≡ true)
