@@ -2,3 +2,4 @@ pub mod Planned
 pub mod Pages
 pub mod DiskBlocks
 pub mod Progress
+pub mod Counted

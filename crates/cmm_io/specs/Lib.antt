@@ -9,3 +9,4 @@ pub mod MemoryStates
 pub mod DiskOf
 pub mod Padded
 pub mod DiskState
+pub mod Counted

@@ -5,6 +5,7 @@
 mod disk;
 mod failed;
 mod failures;
+mod laws;
 mod mem_disk;
 mod memory;
 mod read;
@@ -16,6 +17,7 @@ mod write;
 pub use disk::Disk;
 pub use failed::Failed;
 pub use failures::PlannedFailures;
+pub use laws::failed_calls_are_planned;
 pub use mem_disk::MemDisk;
 pub use memory::{MemSink, MemSource};
 pub use read::{ReadError, read_all};

@@ -24,7 +24,7 @@ use Rattle.host_plain.specs.MemoryState.{MemoryState, IsMemory, IsPage, IsWholeB
 use Rattle.host_plain.specs.Eviction.{Paged, aged_words, aged_candidate, word_in, passed, passed_by, discarded_at, preserved_at, brought_at, aged_at, moved_page, reclaimed_page, evicted_at, evicted, freed}
 use Rattle.host_plain.specs.HostMoves.{Applied, Reclaimed, answered, brought_after, allowed_move, applied_as, applied, counted, more_at, one_more, reclaimed}
 use Rattle.host_plain.specs.Keeping.{HostKeeps, SamePage}
-use Rattle.host_plain.proofs.Kept.{page_kept, word_kept, length-aged_words, passed_kept, wrapped-below, aged-permitted, aged-resident, aged_words-resident, evicted-frees, evicted-other, other_place}
+use Rattle.host_plain.proofs.Kept.{page_kept, word_kept, length-aged_words, hand_kept, wrapped-below, aged-permitted, aged-resident, aged_words-resident, evicted-frees, evicted-other, other_place}
 
 pub keeps-refl : (m : MemoryState) → IsMemory m → HostKeeps m m
 keeps-refl m sound = record { sound = sound; count = refl; frames = refl; busy = λ place. refl; values = λ place. MayBecome-refl (value_at m place) }
@@ -94,8 +94,7 @@ moved-keeps : (m : MemoryState) (place : ℕ) (action : Move) (w' : Fields) → 
 moved-keeps m place action w' sound below answer room =
     let other : place < length m.bodies = omega (arith, below, sound.same) in
     record {
-      sound = page_kept m.words m.bodies m.frames m.free m.hand place w' (moved_body action (body_at m place)) (m.free + frames_of (word_at m place) - frames_of w') sound below
-          (moved-page (word_at m place) (body_at m place) action w' (sound.pages place below) answer) (omega (arith, room));
+      sound = page_kept m place w' (moved_body action (body_at m place)) sound below (moved-page (word_at m place) (body_at m place) action w' (sound.pages place below) answer) room;
       count = length-set m.words place w';
       frames = refl;
       busy = busy_set m place w' below (moved-busy (word_at m place) action w' answer);
@@ -135,7 +134,7 @@ word-keeps : (m : MemoryState) (place : ℕ) (word : Fields) → IsMemory m → 
     is_resident word.content ≡ is_resident (word_at m place).content → word.busy ≡ (word_at m place).busy →
     actual word (body_at m place) ≡ value_at m place → HostKeeps m (with_word m place word)
 word-keeps m place word sound below permitted same busy value = record {
-  sound = word_kept m.words m.bodies m.frames m.free m.hand place word sound below permitted same;
+  sound = word_kept m place word sound below permitted same;
   count = length-set m.words place word;
   frames = refl;
   busy = busy_set m place word below busy;
@@ -179,7 +178,7 @@ passed_by-keeps m place hand sound below inside =
     let most : passed m.words m.hand place ≤ length m.words = passed-most (word_in m.words place).referenced (length m.words) m.hand place sound.hand below in
     let aged = aged_words-keeps m (passed m.words m.hand place) sound most in
     record {
-      sound = passed_kept m.words (aged_words m.words m.hand (passed m.words m.hand place)) m.bodies m.frames m.free m.hand hand (passed m.words m.hand place) sound most inside refl;
+      sound = hand_kept (record m { words = aged_words m.words m.hand (passed m.words m.hand place) }) hand aged.sound (rw (length-aged_words m.words m.hand (passed m.words m.hand place)) inside);
       count = aged.count;
       frames = refl;
       busy = aged.busy;

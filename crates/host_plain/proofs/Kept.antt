@@ -1,27 +1,29 @@
 -- What keeps a host's memory sound.
-use Rattle.std.specs.Prelude.{◌≡◌, ◌≢◌, refl, ℕ, zero, suc, ◌+◌, ◌<◌, ◌≤◌, take, drop, ◌++◌, List, [], ◌∷◌, length, Bool, not, is_ok, true, false, None, is_some, Ok, if◌then◌else◌, slice_index_or, slice_set}
+use Rattle.std.specs.Prelude.{◌≡◌, ◌≢◌, refl, ℕ, zero, suc, ◌+◌, ◌-◌, ◌<◌, ◌≤◌, List, [], ◌∷◌, length, Bool, not, is_ok, true, false, is_some, Ok, if◌then◌else◌, slice_index_or, slice_set}
 use Rattle.std.proofs.Common.{arith, ap, sym, subst, inl, inr, ◌∙◌, get_or-set_other, get_or-set_same}
 use Rattle.std.proofs.Math.ListN.{length-set, get_or-eq_default}
 use Rattle.std.proofs.lemmas.Bool.{cases_eq, cases_lt}
 use Rattle.std.proofs.lemmas.Grind.{common_steps}
-use Rattle.std.proofs.lemmas.List.{set-get_or, get_or_default}
+use Rattle.std.proofs.lemmas.List.{set-get_or, get_or_default, length-replicate}
 use Rattle.essa_state.specs.declared.fields.Fields.{Fields}
 use Rattle.essa_state.specs.StateWord.{is_resident, is_permitted, is_zero}
 use Rattle.essa_state.specs.declared.orders.Order.{Order}
 use Rattle.essa_state.specs.declared.orders.Order.TheVariants.{Get}
-use Rattle.cmm_types.specs.declared.page.Content.TheVariants.{Resident, Zero}
-use Rattle.cmm_types.specs.declared.page.Move.TheVariants.{Discard, Preserve, Bring, Age}
-use Rattle.essa_state.specs.Moves.{move_answer, discard_answer}
+use Rattle.cmm_types.specs.declared.page.TheConstants.{PAGE}
+use Rattle.cmm_types.specs.declared.page.Content.TheVariants.{Resident}
+use Rattle.cmm_types.specs.declared.page.Move.TheVariants.{Discard, Preserve, Age}
+use Rattle.essa_state.specs.Moves.{move_answer, discard_answer, brought}
 use Rattle.cmm_io.specs.FailurePlan.{FailurePlan, fails_next}
 use Rattle.essa_state.specs.Orders.{after_order}
 use Rattle.essa_state.specs.WordLaws.{ordered-permitted}
-use Rattle.essa_state.specs.PageBody.{Body}
+use Rattle.cmm_storage.specs.StorageView.{write_at, zeros}
+use Rattle.essa_state.specs.PageBody.{Body, FitsWord, frame_bytes}
 use Rattle.host_plain.specs.Eviction.{aged_words, aged_candidate, word_in, passed, passed_by, moved_page, reclaimed_page, preserved_at}
 use Rattle.host_clock.specs.Victim.{wrapped}
-use Rattle.host_plain.specs.MemoryState.{MemoryState, word_at, IsMemory, IsPage, IsWholeBody, with_bytes, opening_word, no_body, frames_of, resident_of}
-
-frames_of-same : (v w : Fields) → is_resident v.content ≡ is_resident w.content → frames_of v ≡ frames_of w
-frames_of-same v w same = ap (λ b. if b then 1 else 0) same
+use Rattle.host_plain.specs.MemoryState.{MemoryState, word_at, body_at, with_word, with_page, with_moved, with_use, stored_at, IsMemory, IsNumbering, IsPage, with_bytes, opening_word, no_body, frames_of, resident_of}
+use Rattle.host_plain.specs.Numbering.{Numbering, number_at, renumbered}
+use Rattle.host_plain.specs.Touches.{zeroed_at}
+use Rattle.host_plain.proofs.Numbers.{numbers_same, resident_set, renumbered_kept, renumbered-spare}
 
 pub resident-set : (words : List Fields) (place : ℕ) (word d : Fields) → place < length words →
     resident_of (slice_set words place word) + frames_of (slice_index_or words place d) ≡ resident_of words + frames_of word
@@ -39,115 +41,102 @@ pages_set words bodies place word body same below page pages k inside =
       | inr n ↦ rw (get_or-set_other words place k word opening_word n, get_or-set_other bodies place k body no_body n) (pages k inside)
     ]
 
--- another word and body at a place, with as many free frames as that leaves
-pub page_kept : (words : List Fields) (bodies : List Body) (frames free hand : ℕ) (place : ℕ) (word : Fields) (body : Body) (left : ℕ) →
-    IsMemory (record { words = words; bodies = bodies; frames = frames; free = free; hand = hand }) → place < length words → IsPage word body →
-    left + frames_of word ≡ free + frames_of (slice_index_or words place opening_word) →
-    IsMemory (record { words = slice_set words place word; bodies = slice_set bodies place body; frames = frames; free = left; hand = hand })
-page_kept words bodies frames free hand place word body left sound below page balance = record {
-  same = length-set bodies place body ∙ sound.same ∙ sym (length-set words place word);
-  few = rw (length-set words place word) sound.few;
+-- another word and body at a place, with as many free frames and such numbers as that leaves
+pub page_with : (m : MemoryState) (place : ℕ) (word : Fields) (body : Body) (free : ℕ) (numbers : Numbering) → IsMemory m → place < length m.words → IsPage word body →
+    free + frames_of word ≡ m.free + frames_of (word_at m place) → length numbers.spare ≡ free → IsNumbering m.frames (slice_set m.words place word) numbers →
+    IsMemory (record (with_page m place word body) { free = free; numbers = numbers })
+page_with m place word body free numbers sound below page balance spare numbered = record {
+  same = length-set m.bodies place body ∙ sound.same ∙ sym (length-set m.words place word);
+  few = rw (length-set m.words place word) sound.few;
   some = sound.some;
   most = sound.most;
-  hand = rw (length-set words place word) sound.hand;
-  pages = λ k inside. pages_set words bodies place word body sound.same below page sound.pages k (subst (λ n. k < n) (length-set words place word) inside);
-  balance = omega (arith, sound.balance, balance, resident-set words place word opening_word below);
+  hand = rw (length-set m.words place word) sound.hand;
+  pages = λ k inside. pages_set m.words m.bodies place word body sound.same below page sound.pages k (subst (λ n. k < n) (length-set m.words place word) inside);
+  balance = omega (arith, sound.balance, balance, resident-set m.words place word opening_word below);
+  spare = spare;
+  numbers = numbered;
 }
 
+frames-fit : (word : Fields) (body : Body) → FitsWord word body → frames_of word ≡ (if is_some body.frame then 1 else 0)
+frames-fit word body fits = ap (λ (b : Bool). if b then 1 else 0) (sym fits)
+
+-- the number of a page's frame is there where its body has one
+pub number-there : (m : MemoryState) (place : ℕ) → IsMemory m → place < length m.words → is_some (number_at m.numbers place) ≡ is_some (body_at m place).frame
+number-there m place sound below = sound.numbers.resident place ∙ sym (sound.pages place below).fits
+
+-- where the page gets a frame, one is free
+one-free : (m : MemoryState) (place : ℕ) (word : Fields) (body : Body) → IsMemory m → place < length m.words → FitsWord word body → frames_of word ≤ m.free + frames_of (word_at m place) →
+    (if is_some body.frame then 1 else 0) ≤ length m.numbers.spare + (if is_some (body_at m place).frame then 1 else 0)
+one-free m place word body sound below fits room =
+    omega (arith, room, frames-fit (word_at m place) (body_at m place) (sound.pages place below).fits, frames-fit word body fits, sound.spare)
+
+-- as many numbers are spare as frames are free
+pub moved-spare : (m : MemoryState) (place : ℕ) (word : Fields) (body : Body) → IsMemory m → place < length m.words → FitsWord word body → frames_of word ≤ m.free + frames_of (word_at m place) →
+    length (renumbered m.numbers place (is_some (body_at m place).frame) (is_some body.frame)).spare ≡ m.free + frames_of (word_at m place) - frames_of word
+moved-spare m place word body sound below fits room =
+    let spare = renumbered-spare (is_some (body_at m place).frame) (is_some body.frame) m.numbers place (number-there m place sound below) (one-free m place word body sound below fits room) in
+    omega (arith, room, frames-fit (word_at m place) (body_at m place) (sound.pages place below).fits, frames-fit word body fits, sound.spare, spare)
+
+-- a page whose frame was free before or is free now; where it gets one, one is free
+pub page_kept : (m : MemoryState) (place : ℕ) (word : Fields) (body : Body) → IsMemory m → place < length m.words → IsPage word body →
+    frames_of word ≤ m.free + frames_of (word_at m place) → IsMemory (with_moved m place word body)
+page_kept m place word body sound below page room =
+    page_with m place word body (m.free + frames_of (word_at m place) - frames_of word) (renumbered m.numbers place (is_some (body_at m place).frame) (is_some body.frame)) sound below page
+    (omega (arith, room)) (moved-spare m place word body sound below page.fits room)
+    (renumbered_kept (is_some (body_at m place).frame) (is_some body.frame) m.frames m.words m.numbers place word sound.numbers below (sym (sound.pages place below).fits) (sym page.fits)
+    (one-free m place word body sound below page.fits room))
+
+-- a page that is resident exactly where it was
+pub page_same : (m : MemoryState) (place : ℕ) (word : Fields) (body : Body) → IsMemory m → place < length m.words → IsPage word body →
+    is_resident word.content ≡ is_resident (word_at m place).content → IsMemory (with_page m place word body)
+page_same m place word body sound below page same =
+    page_with m place word body m.free m.numbers sound below page (ap (λ (b : Bool). m.free + (if b then 1 else 0)) same) sound.spare
+    (numbers_same m.frames m.words (slice_set m.words place word) m.numbers (length-set m.words place word) (resident_set m.words place word same below) sound.numbers)
+
 -- another word at a place, resident exactly where the old one was
-pub word_kept : (words : List Fields) (bodies : List Body) (frames free hand : ℕ) (place : ℕ) (word : Fields) →
-    IsMemory (record { words = words; bodies = bodies; frames = frames; free = free; hand = hand }) → place < length words → is_permitted word ≡ true →
-    is_resident word.content ≡ is_resident (slice_index_or words place opening_word).content →
-    IsMemory (record { words = slice_set words place word; bodies = bodies; frames = frames; free = free; hand = hand })
-word_kept words bodies frames free hand place word sound below permitted same =
+pub word_kept : (m : MemoryState) (place : ℕ) (word : Fields) → IsMemory m → place < length m.words → is_permitted word ≡ true →
+    is_resident word.content ≡ is_resident (word_at m place).content → IsMemory (with_word m place word)
+word_kept m place word sound below permitted same =
     let page = sound.pages place below in
-    let whole : IsPage word (slice_index_or bodies place no_body) = record { permitted = permitted; fits = page.fits ∙ sym same; whole = page.whole } in
-    let balance : free + frames_of word ≡ free + frames_of (slice_index_or words place opening_word) = ap (λ n. free + n) (frames_of-same word (slice_index_or words place opening_word) same) in
-    subst (λ all. IsMemory (record { words = slice_set words place word; bodies = all; frames = frames; free = free; hand = hand })) (set-get_or bodies place no_body)
-    (page_kept words bodies frames free hand place word (slice_index_or bodies place no_body) free sound below whole balance)
+    let whole : IsPage word (body_at m place) = record { permitted = permitted; fits = page.fits ∙ sym same; whole = page.whole } in
+    subst (λ all. IsMemory (record m { words = slice_set m.words place word; bodies = all })) (set-get_or m.bodies place no_body)
+    (page_same m place word (body_at m place) sound below whole same)
 
 pub order-resident : (word : Fields) (code : Order) → is_resident (after_order word code).content ≡ is_resident word.content
 order-resident word Get = grind arith
 order-resident word code = grind arith
 
 -- the word after an order
-pub order_kept : (words : List Fields) (bodies : List Body) (frames free hand : ℕ) (place : ℕ) (code : Order) (old word : Fields) →
-    IsMemory (record { words = words; bodies = bodies; frames = frames; free = free; hand = hand }) → place < length words →
-    old ≡ slice_index_or words place opening_word → word ≡ after_order old code →
-    IsMemory (record { words = slice_set words place word; bodies = bodies; frames = frames; free = free; hand = hand })
-order_kept words bodies frames free hand place code old word sound below found made =
-    let permitted : is_permitted old ≡ true = rw found (sound.pages place below).permitted in
-    word_kept words bodies frames free hand place word sound below
-    (rw made (ordered-permitted old code permitted))
-    (ap (λ w. is_resident w.content) made ∙ order-resident old code ∙ ap (λ w. is_resident w.content) found)
+pub order_kept : (m : MemoryState) (place : ℕ) (code : Order) → IsMemory m → place < length m.words → IsMemory (with_word m place (after_order (word_at m place) code))
+order_kept m place code sound below =
+    word_kept m place (after_order (word_at m place) code) sound below (ordered-permitted (word_at m place) code (sound.pages place below).permitted) (order-resident (word_at m place) code)
 
 used-permitted : (old : Fields) → is_permitted old ≡ true → is_resident old.content ≡ true → is_permitted (record old { referenced = true }) ≡ true
 used-permitted old permitted resident = grind arith
 
 -- the word of a resident page that is used
-pub use_kept : (words : List Fields) (bodies : List Body) (frames free hand : ℕ) (place : ℕ) (old word : Fields) →
-    IsMemory (record { words = words; bodies = bodies; frames = frames; free = free; hand = hand }) → place < length words →
-    old ≡ slice_index_or words place opening_word → is_resident old.content ≡ true → word ≡ record old { referenced = true } →
-    IsMemory (record { words = slice_set words place word; bodies = bodies; frames = frames; free = free; hand = hand })
-use_kept words bodies frames free hand place old word sound below found resident made =
-    let permitted : is_permitted old ≡ true = rw found (sound.pages place below).permitted in
-    word_kept words bodies frames free hand place word sound below
-    (rw made (used-permitted old permitted resident))
-    (ap (λ w. is_resident w.content) made ∙ ap (λ w. is_resident w.content) found)
+pub use_kept : (m : MemoryState) (place : ℕ) → IsMemory m → place < length m.words → is_resident (word_at m place).content ≡ true → IsMemory (with_use m place)
+use_kept m place sound below resident =
+    word_kept m place (record (word_at m place) { referenced = true }) sound below (used-permitted (word_at m place) (sound.pages place below).permitted resident) refl
 
 stored-permitted : (old : Fields) → is_permitted old ≡ true → is_resident old.content ≡ true → is_permitted (record old { changed = true }) ≡ true
 stored-permitted old permitted resident = grind arith
 
+written-length : (old new : List ℕ) (off : ℕ) → length old ≡ PAGE → off + length new ≤ PAGE → length (write_at old off new) ≡ PAGE
+written-length old new off whole within = grind (arith, common_steps)
+
 -- a resident page whose bytes are written
-pub store_kept : (words : List Fields) (bodies : List Body) (frames free hand : ℕ) (place : ℕ) (old word : Fields) (bytes : List ℕ) (before body : Body) →
-    IsMemory (record { words = words; bodies = bodies; frames = frames; free = free; hand = hand }) → place < length words →
-    old ≡ slice_index_or words place opening_word → is_resident old.content ≡ true → word ≡ record old { changed = true } →
-    body ≡ with_bytes before bytes → IsWholeBody body →
-    IsMemory (record { words = slice_set words place word; bodies = slice_set bodies place body; frames = frames; free = free; hand = hand })
-store_kept words bodies frames free hand place old word bytes before body sound below found resident made written whole =
-    let permitted : is_permitted old ≡ true = rw found (sound.pages place below).permitted in
-    let same : is_resident word.content ≡ is_resident old.content = ap (λ w. is_resident w.content) made in
-    page_kept words bodies frames free hand place word body free sound below
+pub store_kept : (m : MemoryState) (place off : ℕ) (bytes : List ℕ) → IsMemory m → place < length m.words → is_resident (word_at m place).content ≡ true → off + length bytes ≤ PAGE →
+    IsMemory (stored_at m place off bytes)
+store_kept m place off bytes sound below resident within =
+    let page = sound.pages place below in
+    page_same m place (record (word_at m place) { changed = true }) (with_bytes (body_at m place) (write_at (frame_bytes (body_at m place)) off bytes)) sound below
     (record {
-      permitted = rw made (stored-permitted old permitted resident);
-      fits = ap (λ b. is_some b.frame) written ∙ sym (same ∙ resident);
-      whole = whole;
+      permitted = stored-permitted (word_at m place) page.permitted resident;
+      fits = sym resident;
+      whole = record { block = page.whole.block; bytes = λ some. written-length (frame_bytes (body_at m place)) bytes off (page.whole.bytes (page.fits ∙ resident)) within };
     })
-    (ap (λ n. free + n) (frames_of-same word (slice_index_or words place opening_word) (same ∙ ap (λ w. is_resident w.content) found)))
-
-discarded-page : (old word : Fields) → is_permitted old ≡ true → move_answer old Discard ≡ Ok word → (is_permitted word ≡ true) × (is_resident word.content ≡ false)
-discarded-page old word permitted answer = grind arith
-
--- a page that is discarded, with the frame that it had among the free ones
-pub discard_kept : (words : List Fields) (bodies : List Body) (frames free hand : ℕ) (place : ℕ) (old word : Fields) (block : List ℕ) (body : Body) (left : ℕ) →
-    IsMemory (record { words = words; bodies = bodies; frames = frames; free = free; hand = hand }) → place < length words →
-    old ≡ slice_index_or words place opening_word → move_answer old Discard ≡ Ok word →
-    body ≡ record { frame = None; block = block } → IsWholeBody body → left ≡ free + frames_of old →
-    IsMemory (record { words = slice_set words place word; bodies = slice_set bodies place body; frames = frames; free = left; hand = hand })
-discard_kept words bodies frames free hand place old word block body left sound below found answer emptied whole freed =
-    let permitted : is_permitted old ≡ true = rw found (sound.pages place below).permitted in
-    let page = discarded-page old word permitted answer in
-    let none : frames_of word ≡ 0 = ap (λ b. if b then 1 else 0) page.1 in
-    page_kept words bodies frames free hand place word body left sound below
-    (record { permitted = page.0; fits = ap (λ b. is_some b.frame) emptied ∙ sym page.1; whole = whole })
-    (omega (arith, none, freed, ap frames_of found))
-
--- while a page is resident not every frame is free
-pub room_for : (words : List Fields) (bodies : List Body) (frames free hand : ℕ) (place : ℕ) (old : Fields) →
-    IsMemory (record { words = words; bodies = bodies; frames = frames; free = free; hand = hand }) → place < length words →
-    old ≡ slice_index_or words place opening_word → is_resident old.content ≡ true → free < frames
-room_for words bodies frames free hand place old sound below found resident =
-    let one : frames_of old ≡ 1 = ap (λ b. if b then 1 else 0) resident in
-    omega (arith, sound.balance, one, ap frames_of found, resident-set words place (record old { content = Zero }) opening_word below)
-
--- a page has a frame exactly where its word says so
-pub fits_at : (words : List Fields) (bodies : List Body) (frames free hand : ℕ) (place : ℕ) (old : Fields) (before d : Body) →
-    IsMemory (record { words = words; bodies = bodies; frames = frames; free = free; hand = hand }) → place < length words →
-    old ≡ slice_index_or words place opening_word → before ≡ slice_index_or bodies place d →
-    is_some before.frame ≡ is_resident old.content
-fits_at words bodies frames free hand place old before d sound below found body =
-    let other : place < length bodies = omega (arith, below, sound.same) in
-    ap (λ (b : Body). is_some b.frame) (body ∙ get_or_default bodies place d no_body other) ∙ (sound.pages place below).fits ∙ ap (λ (w : Fields). is_resident w.content) (sym found)
+    refl
 
 pub frames_of-resident : (word : Fields) → is_resident word.content ≡ true → frames_of word ≡ 1
 frames_of-resident word resident = ap (λ b. if b then 1 else 0) resident
@@ -155,64 +144,22 @@ frames_of-resident word resident = ap (λ b. if b then 1 else 0) resident
 pub frames_of-absent : (word : Fields) → is_resident word.content ≡ false → frames_of word ≡ 0
 frames_of-absent word absent = ap (λ b. if b then 1 else 0) absent
 
-preserved-page : (old word : Fields) → is_permitted old ≡ true → move_answer old Preserve ≡ Ok word →
-    (is_permitted word ≡ true) × (is_resident word.content ≡ false) × (is_resident old.content ≡ true)
-preserved-page old word permitted answer = grind arith
-
-pub preserved-resident : (words : List Fields) (bodies : List Body) (frames free hand : ℕ) (place : ℕ) (old word : Fields) →
-    IsMemory (record { words = words; bodies = bodies; frames = frames; free = free; hand = hand }) → place < length words →
-    old ≡ slice_index_or words place opening_word → move_answer old Preserve ≡ Ok word → is_resident old.content ≡ true
-preserved-resident words bodies frames free hand place old word sound below found answer =
-    let permitted : is_permitted old ≡ true = rw found (sound.pages place below).permitted in
-    (preserved-page old word permitted answer).2
-
--- a page that is preserved, with its frame among the free ones
-pub preserve_kept : (words : List Fields) (bodies : List Body) (frames free hand : ℕ) (place : ℕ) (old word : Fields) (body : Body) (left : ℕ) →
-    IsMemory (record { words = words; bodies = bodies; frames = frames; free = free; hand = hand }) → place < length words →
-    old ≡ slice_index_or words place opening_word → move_answer old Preserve ≡ Ok word →
-    is_some body.frame ≡ false → IsWholeBody body → left ≡ free + 1 →
-    IsMemory (record { words = slice_set words place word; bodies = slice_set bodies place body; frames = frames; free = left; hand = hand })
-preserve_kept words bodies frames free hand place old word body left sound below found answer emptied whole freed =
-    let permitted : is_permitted old ≡ true = rw found (sound.pages place below).permitted in
-    let page = preserved-page old word permitted answer in
-    page_kept words bodies frames free hand place word body left sound below
-    (record { permitted = page.0; fits = emptied ∙ sym page.1; whole = whole })
-    (omega (arith, frames_of-absent word page.1, frames_of-resident old page.2, freed, ap frames_of found))
-
-brought-page : (old word : Fields) → is_permitted old ≡ true → move_answer old Bring ≡ Ok word →
-    (is_permitted word ≡ true) × (is_resident word.content ≡ true) × (is_resident old.content ≡ false)
-brought-page old word permitted answer = grind arith
-
--- a page that is brought back, with a frame of the free ones
-pub bring_kept : (words : List Fields) (bodies : List Body) (frames free hand : ℕ) (place : ℕ) (old word : Fields) (body : Body) (left : ℕ) →
-    IsMemory (record { words = words; bodies = bodies; frames = frames; free = free; hand = hand }) → place < length words →
-    old ≡ slice_index_or words place opening_word → move_answer old Bring ≡ Ok word →
-    is_some body.frame ≡ true → IsWholeBody body → left + 1 ≡ free →
-    IsMemory (record { words = slice_set words place word; bodies = slice_set bodies place body; frames = frames; free = left; hand = hand })
-bring_kept words bodies frames free hand place old word body left sound below found answer framed whole used =
-    let permitted : is_permitted old ≡ true = rw found (sound.pages place below).permitted in
-    let page = brought-page old word permitted answer in
-    page_kept words bodies frames free hand place word body left sound below
-    (record { permitted = page.0; fits = framed ∙ sym page.1; whole = whole })
-    (omega (arith, frames_of-resident word page.1, frames_of-absent old page.2, used, ap frames_of found))
-
 zeroed-page : (old : Fields) → is_permitted old ≡ true → is_zero old.content ≡ true →
     (is_permitted (record old { content = Resident }) ≡ true) × (is_resident old.content ≡ false)
 zeroed-page old permitted blank = grind arith
 
+zeros-whole : length zeros ≡ PAGE
+unfolding zeros
+zeros-whole = length-replicate {A = ℕ} PAGE 0
+
 -- a page without contents that gets a frame of the free ones
-pub zeroed_kept : (words : List Fields) (bodies : List Body) (frames free hand : ℕ) (place : ℕ) (old word : Fields) (body : Body) (left : ℕ) →
-    IsMemory (record { words = words; bodies = bodies; frames = frames; free = free; hand = hand }) → place < length words →
-    old ≡ slice_index_or words place opening_word → is_zero old.content ≡ true → word ≡ record old { content = Resident } →
-    is_some body.frame ≡ true → IsWholeBody body → left + 1 ≡ free →
-    IsMemory (record { words = slice_set words place word; bodies = slice_set bodies place body; frames = frames; free = left; hand = hand })
-zeroed_kept words bodies frames free hand place old word body left sound below found blank made framed whole used =
-    let permitted : is_permitted old ≡ true = rw found (sound.pages place below).permitted in
-    let page = zeroed-page old permitted blank in
-    let resident : is_resident word.content ≡ true = ap (λ w. is_resident w.content) made in
-    page_kept words bodies frames free hand place word body left sound below
-    (record { permitted = rw made page.0; fits = framed ∙ sym resident; whole = whole })
-    (omega (arith, frames_of-resident word resident, frames_of-absent old page.1, used, ap frames_of found))
+pub zeroed_kept : (m : MemoryState) (place : ℕ) → IsMemory m → place < length m.words → is_zero (word_at m place).content ≡ true → 0 < m.free → IsMemory (zeroed_at m place)
+zeroed_kept m place sound below blank frame =
+    let page = sound.pages place below in
+    let zeroed = zeroed-page (word_at m place) page.permitted blank in
+    page_kept m place (brought (word_at m place)) (with_bytes (body_at m place) zeros) sound below
+    (record { permitted = zeroed.0; fits = refl; whole = record { block = page.whole.block; bytes = λ some. zeros-whole } })
+    (omega (arith, frame))
 
 -- ages keep the number of words
 pub length-aged_words : (words : List Fields) (hand n : ℕ) → length (aged_words words hand n) ≡ length words
@@ -244,32 +191,19 @@ aged-resident word = grind arith
 pub wrapped-below : (count hand n : ℕ) → hand < count → n < count → wrapped count (hand + n) < count
 wrapped-below count hand n first second = grind arith
 
--- ages leave a memory sound
-pub aged_kept : (words : List Fields) (bodies : List Body) (frames free hand n : ℕ) →
-    IsMemory (record { words = words; bodies = bodies; frames = frames; free = free; hand = hand }) → n ≤ length words →
-    IsMemory (record { words = aged_words words hand n; bodies = bodies; frames = frames; free = free; hand = hand })
-unfolding aged_words
-aged_kept words bodies frames free hand zero sound most = sound
-aged_kept words bodies frames free hand (suc n) sound most =
-    let before = aged_kept words bodies frames free hand n sound (omega (arith, most)) in
-    let inside : wrapped (length words) (hand + n) < length (aged_words words hand n) = rw (length-aged_words words hand n) (wrapped-below (length words) hand n sound.hand (omega (arith, most))) in
-    word_kept (aged_words words hand n) bodies frames free hand (wrapped (length words) (hand + n)) _ before inside
-    (aged-permitted _ (before.pages (wrapped (length words) (hand + n)) inside).permitted)
-    (aged-resident _)
-
-pub take-whole : (n : ℕ) (words others : List Fields) → length words ≡ n → take n (words ++ drop (length words) others) ≡ words
-take-whole n words others whole = grind (arith, common_steps)
-
--- the ages of so many words, and another hand
-pub passed_kept : (words now : List Fields) (bodies : List Body) (frames free hand next n : ℕ) →
-    IsMemory (record { words = words; bodies = bodies; frames = frames; free = free; hand = hand }) → n ≤ length words → next < length words →
-    now ≡ aged_words words hand n →
-    IsMemory (record { words = now; bodies = bodies; frames = frames; free = free; hand = next })
-passed_kept words now bodies frames free hand next n sound most inside grown =
-    let all = aged_kept words bodies frames free hand n sound most in
-    let moved : IsMemory (record { words = aged_words words hand n; bodies = bodies; frames = frames; free = free; hand = next }) =
-    record { same = all.same; few = all.few; some = all.some; most = all.most; hand = rw (length-aged_words words hand n) inside; pages = all.pages; balance = all.balance } in
-    subst (λ (ws : List Fields). IsMemory (record { words = ws; bodies = bodies; frames = frames; free = free; hand = next })) (sym grown) moved
+-- another hand
+pub hand_kept : (m : MemoryState) (hand : ℕ) → IsMemory m → hand < length m.words → IsMemory (record m { hand = hand })
+hand_kept m hand sound inside = record {
+  same = sound.same;
+  few = sound.few;
+  some = sound.some;
+  most = sound.most;
+  hand = inside;
+  pages = sound.pages;
+  balance = sound.balance;
+  spare = sound.spare;
+  numbers = sound.numbers;
+}
 
 aged_one : (words : List Fields) (p place : ℕ) →
     is_resident (word_in (slice_set words p (aged_candidate (word_in words p))) place).content ≡ is_resident (word_in words place).content
@@ -372,16 +306,11 @@ pub evicted-count : (m : MemoryState) (place hand : ℕ) (pager : FailurePlan) �
 unfolding passed_by reclaimed_page
 evicted-count m place hand pager = count_after _ (passed_by m (place, hand)) place pager ∙ length-aged_words m.words m.hand (passed m.words m.hand place)
 
-aged-page : (old word : Fields) → is_permitted old ≡ true → move_answer old Age ≡ Ok word →
-    (is_permitted word ≡ true) × (is_resident word.content ≡ is_resident old.content)
+aged-page : (old word : Fields) → is_permitted old ≡ true → move_answer old Age ≡ Ok word → (is_permitted word ≡ true) × (is_resident word.content ≡ is_resident old.content)
 aged-page old word permitted answer = grind arith
 
 -- the word of a page that is aged
-pub age_kept : (words : List Fields) (bodies : List Body) (frames free hand : ℕ) (place : ℕ) (old word : Fields) →
-    IsMemory (record { words = words; bodies = bodies; frames = frames; free = free; hand = hand }) → place < length words →
-    old ≡ slice_index_or words place opening_word → move_answer old Age ≡ Ok word →
-    IsMemory (record { words = slice_set words place word; bodies = bodies; frames = frames; free = free; hand = hand })
-age_kept words bodies frames free hand place old word sound below found answer =
-    let permitted : is_permitted old ≡ true = rw found (sound.pages place below).permitted in
-    let page = aged-page old word permitted answer in
-    word_kept words bodies frames free hand place word sound below page.0 (page.1 ∙ ap (λ w. is_resident w.content) found)
+pub age_kept : (m : MemoryState) (place : ℕ) (word : Fields) → IsMemory m → place < length m.words → move_answer (word_at m place) Age ≡ Ok word → IsMemory (with_word m place word)
+age_kept m place word sound below answer =
+    let page = aged-page (word_at m place) word (sound.pages place below).permitted answer in
+    word_kept m place word sound below page.0 page.1

@@ -1,3 +1,5 @@
+pub mod Framed
+pub mod Numbers
 pub mod Kept
 pub mod Keeping
 pub mod Touching
@@ -12,3 +14,7 @@ pub mod Starts
 pub mod Moving
 pub mod Others
 pub mod Running
+pub mod PagerCalls
+pub mod Seen
+pub mod OwnFrames
+pub mod Closing

@@ -1,12 +1,14 @@
--- A memory as it is opened is sound, and one that is closed gives all its frames back.
-use Rattle.std.specs.Prelude.{◌≡◌, refl, ℕ, zero, suc, ◌+◌, ◌<◌, ◌≤◌, List, [], ◌∷◌, length, Bool, false, is_some, map, replicate, slice_index_or, All, ◌++◌, if◌then◌else◌}
+-- A memory as it is opened is sound.
+use Rattle.std.specs.Prelude.{◌≡◌, refl, ℕ, zero, suc, ◌<◌, ◌≤◌, List, [], ◌∷◌, length, false, is_some, map, replicate, slice_index_or, All}
 use Rattle.std.proofs.Common.{arith, ap, sym, ◌∙◌}
 use Rattle.std.proofs.lemmas.List.{length-replicate, length-map}
+use Rattle.std.proofs.lemmas.List.FromFn.{length-range_with_len}
 use Rattle.cmm_types.specs.declared.plan.TheConstants.{MAX_FRAMES, MAX_TOTAL_PAGES}
 use Rattle.essa_state.specs.declared.fields.Fields.{Fields}
 use Rattle.essa_state.specs.StateWord.{is_permitted, is_resident}
-use Rattle.essa_state.specs.PageBody.{Body}
-use Rattle.host_plain.specs.MemoryState.{IsMemory, IsWholeBody, opening_word, no_body, frameless, frames_of, frames_in, framed_of, resident_of, opening_memory}
+use Rattle.host_plain.specs.Bodies.{BodiesView, memory_of, opening_bodies}
+use Rattle.host_plain.proofs.Numbers.{opening-numbering}
+use Rattle.host_plain.specs.MemoryState.{IsMemory, IsWholeBody, opening_word, no_body, frameless, resident_of, opening_memory}
 
 pub opening_word-at : (n k : ℕ) → slice_index_or (replicate n opening_word) k opening_word ≡ opening_word
 opening_word-at zero k = refl
@@ -39,24 +41,13 @@ opening-sound blocks frames some_pages most_pages some_frames most_frames whole 
         whole = whole k no_body (omega (arith, below, count, bodies));
       };
       balance = omega (arith, none-resident (length blocks));
+      spare = length-range_with_len 0 frames;
+      numbers = opening-numbering (length blocks) frames (replicate (length blocks) opening_word) count (λ k. ap (λ (w : Fields). is_resident w.content) (opening_word-at (length blocks) k));
     }
 
-pub framed-append : (xs ys : List Body) → framed_of (xs ++ ys) ≡ framed_of xs + framed_of ys
-framed-append [] ys = omega arith
-framed-append (x ∷ xs) ys = omega (arith, framed-append xs ys)
-
--- as many bodies have a frame as pages are resident
-pub framed-resident : (words : List Fields) (bodies : List Body) → length bodies ≡ length words →
-    ((k : ℕ) → k < length words → is_some (slice_index_or bodies k no_body).frame ≡ is_resident (slice_index_or words k opening_word).content) → framed_of bodies ≡ resident_of words
-framed-resident [] [] same fits = refl
-framed-resident [] (body ∷ bodies) same fits = absurd (omega (arith, same))
-framed-resident (word ∷ words) [] same fits = absurd (omega (arith, same))
-framed-resident (word ∷ words) (body ∷ bodies) same fits =
-    let first : frames_in body ≡ frames_of word = ap (λ (b : Bool). if b then 1 else 0) (fits 0 (omega arith)) in
-    omega (arith, first, framed-resident words bodies (omega (arith, same)) (λ k below. fits (suc k) (omega (arith, below))))
-
--- as many frames are free or in bodies as there are
-pub frames-balance : (words : List Fields) (bodies : List Body) (frames free hand : ℕ) →
-    IsMemory (record { words = words; bodies = bodies; frames = frames; free = free; hand = hand }) → free + framed_of bodies ≡ frames
-frames-balance words bodies frames free hand sound =
-    omega (arith, sound.balance, framed-resident words bodies sound.same (λ k below. (sound.pages k below).fits))
+-- by the words and the bodies
+pub opening-memory : (blocks : List (List ℕ)) (frames : ℕ) (words : List Fields) (b : BodiesView) → words ≡ replicate (length blocks) opening_word → b ≡ opening_bodies blocks frames →
+    memory_of words b 0 ≡ opening_memory blocks frames
+opening-memory blocks frames words b p q =
+    let free : length b.numbers.spare ≡ frames = ap (λ (v : BodiesView). length v.numbers.spare) q ∙ length-range_with_len 0 frames in
+    λ i. record { words = p i; bodies = (q i).bodies; frames = (q i).frames; free = free i; numbers = (q i).numbers; hand = 0 }

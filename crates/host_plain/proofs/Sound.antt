@@ -3,7 +3,6 @@ use Rattle.std.specs.Prelude.{◌≡◌, refl, ℕ, ◌+◌, ◌<◌, ◌≤◌,
 use Rattle.std.proofs.Common.{arith, ap, sym, subst, inl, inr, ◌∙◌, get_or-set_other, get_or-set_same}
 use Rattle.std.proofs.Math.ListN.{length-set}
 use Rattle.std.proofs.lemmas.Bool.{cases_eq}
-use Rattle.std.proofs.lemmas.Grind.{common_steps}
 use Rattle.cmm_types.specs.declared.page.TheConstants.{PAGE}
 use Rattle.cmm_types.specs.declared.page.Move.{Move}
 use Rattle.cmm_io.specs.FailurePlan.{FailurePlan}
@@ -13,11 +12,9 @@ use Rattle.essa_state.specs.declared.orders.Order.TheVariants.{Get}
 use Rattle.essa_state.specs.StateWord.{is_resident, is_permitted}
 use Rattle.essa_state.specs.Orders.{after_order}
 use Rattle.essa_state.specs.WordLaws.{ordered-permitted}
-use Rattle.essa_state.specs.PageBody.{frame_bytes}
 use Rattle.cmm_storage.specs.declared.storage.Trap.{Trap}
 use Rattle.cmm_storage.specs.declared.storage.Trap.TheVariants.{Discarded, Paging, NoFrame}
-use Rattle.cmm_storage.specs.StorageView.{write_at}
-use Rattle.host_plain.specs.MemoryState.{MemoryState, IsMemory, IsWholeBody, word_at, body_at, with_word, with_bytes, stored_at, opening_word}
+use Rattle.host_plain.specs.MemoryState.{MemoryState, IsMemory, word_at, with_word, stored_at, opening_word}
 use Rattle.host_plain.specs.HostMoves.{applied}
 use Rattle.host_plain.specs.HostState.{HostState, IsHost, host_word, place_of, pages_of, pager_of, held_word, touch_of, touch_after, served, move_of, after_move, reclaim_of, after_reclaim, HostMayMake, start_of, with_host_word, stored, taken, given_back, held_place}
 use Rattle.host_plain.proofs.Kept.{word_kept, store_kept, order-resident}
@@ -58,7 +55,7 @@ word-host h page word is held permitted same busy =
     let place : ℕ = place_of h page in
     let below : place < length m.words = held-below h page is held in
     host_kept h (with_word m place word) h.pagers h.own h.touched is
-    (word_kept m.words m.bodies m.frames m.free m.hand place word is.memory below permitted same)
+    (word_kept m place word is.memory below permitted same)
     (length-set m.words place word) refl (busy_set m place word below busy)
     (λ other there touched. subst (λ p. is_resident (word_at (with_word m place word) (place_of h p)).content ≡ true) (same_page h page other held there)
     (rw (get_or-set_same m.words place word opening_word below) (same ∙ is.resident page held touched)))
@@ -80,29 +77,21 @@ unchanged-host h page is held =
     let permitted : is_permitted (host_word h page) ≡ true = (is.memory.pages (place_of h page) (held-below h page is held)).permitted in
     word-host h page (record (host_word h page) { changed = false }) is held (unchanged-permitted (host_word h page) permitted) refl refl
 
-pub written-length : (old new : List ℕ) (off : ℕ) → length old ≡ PAGE → off + length new ≤ PAGE → length (write_at old off new) ≡ PAGE
-written-length old new off whole within = grind (arith, common_steps)
-
 pub stored-host : (h : HostState) (page off : ℕ) (bytes : List ℕ) → IsHost h → h.held ≡ Some page → h.touched ≡ true → off + length bytes ≤ PAGE → IsHost (stored h page off bytes)
 stored-host h page off bytes is held touched within =
     let m : MemoryState = h.memory in
     let place : ℕ = place_of h page in
     let below : place < length m.words = held-below h page is held in
-    let found = is.memory.pages place below in
     let resident : is_resident (word_at m place).content ≡ true = is.resident page held touched in
-    let whole : IsWholeBody (with_bytes (body_at m place) (write_at (frame_bytes (body_at m place)) off bytes)) =
-    record { block = found.whole.block; bytes = λ e. written-length (frame_bytes (body_at m place)) bytes off (found.whole.bytes (found.fits ∙ resident)) within } in
     let word : Fields = record (word_at m place) { changed = true } in
-    host_kept h (stored_at m place off bytes) h.pagers h.own h.touched is
-    (store_kept m.words m.bodies m.frames m.free m.hand place (word_at m place) word (write_at (frame_bytes (body_at m place)) off bytes) (body_at m place)
-    (with_bytes (body_at m place) (write_at (frame_bytes (body_at m place)) off bytes)) is.memory below refl resident refl refl whole)
+    host_kept h (stored_at m place off bytes) h.pagers h.own h.touched is (store_kept m place off bytes is.memory below resident within)
     (length-set m.words place word) refl (busy_set m place word below refl)
     (λ other there t. subst (λ p. is_resident (word_at (stored_at m place off bytes) (place_of h p)).content ≡ true) (same_page h page other held there)
     (rw (get_or-set_same m.words place word opening_word below) resident))
 
 busy-word : (m : MemoryState) (place : ℕ) (b : Bool) → IsMemory m → place < length m.words → IsMemory (with_word m place (held_word (word_at m place) b))
 busy-word m place b sound below =
-    word_kept m.words m.bodies m.frames m.free m.hand place (held_word (word_at m place) b) sound below (sound.pages place below).permitted refl
+    word_kept m place (held_word (word_at m place) b) sound below (sound.pages place below).permitted refl
 
 pub taken-host : (h : HostState) (page : ℕ) → IsHost h → page < pages_of h h.guest → h.held ≡ None → IsHost (taken h page)
 taken-host h page is inside none =

@@ -60,9 +60,8 @@ opening-host pages frames blocks pagers own sound some guests each all = record 
 }
 
 -- a host as it is opened, by its parts
-pub opened : (pages : List ℕ) (frames : ℕ) (blocks : List (List ℕ)) (pagers : List FailurePlan) (own : FailurePlan) (given : ℕ) (m : MemoryState) (starts : List ℕ) →
-    given ≡ frames → m ≡ opening_memory blocks given → starts ≡ starts_of pages →
-    record { memory = m; starts = starts; pagers = pagers; own = own; guest = 0; held = None; touched = false } ≡ opening pages frames blocks pagers own
-opened pages frames blocks pagers own given m starts same memory there =
-    ap (λ (k : MemoryState). let h : HostState = record { memory = k; starts = starts; pagers = pagers; own = own; guest = 0; held = None; touched = false } in h) (memory ∙ ap (opening_memory blocks) same)
+pub opened : (pages : List ℕ) (frames : ℕ) (blocks : List (List ℕ)) (pagers : List FailurePlan) (own : FailurePlan) (m : MemoryState) (starts : List ℕ) → m ≡ opening_memory blocks frames →
+    starts ≡ starts_of pages → record { memory = m; starts = starts; pagers = pagers; own = own; guest = 0; held = None; touched = false } ≡ opening pages frames blocks pagers own
+opened pages frames blocks pagers own m starts memory there =
+    ap (λ (k : MemoryState). let h : HostState = record { memory = k; starts = starts; pagers = pagers; own = own; guest = 0; held = None; touched = false } in h) memory
     ∙ ap (λ (s : List ℕ). let h : HostState = record { memory = opening_memory blocks frames; starts = s; pagers = pagers; own = own; guest = 0; held = None; touched = false } in h) there

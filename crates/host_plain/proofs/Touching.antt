@@ -1,9 +1,7 @@
 -- What a touch keeps, and what it leaves of the page that is touched.
-use Rattle.std.specs.Prelude.{◌≡◌, refl, ℕ, ◌+◌, ◌-◌, ◌<◌, length, Bool, true, false, not, Ok, Err, if◌then◌else◌}
+use Rattle.std.specs.Prelude.{◌≡◌, refl, ℕ, ◌<◌, length, Bool, true, false, not, Ok, Err, if◌then◌else◌}
 use Rattle.std.proofs.Common.{arith, ap, sym, subst, ◌∙◌, get_or-set_other, get_or-set_same}
 use Rattle.std.proofs.Math.ListN.{length-set}
-use Rattle.std.proofs.lemmas.List.{length-replicate}
-use Rattle.cmm_types.specs.declared.page.TheConstants.{PAGE}
 use Rattle.cmm_types.specs.declared.page.Move.TheVariants.{Bring}
 use Rattle.cmm_io.specs.FailurePlan.{FailurePlan, fails_next}
 use Rattle.essa_state.specs.declared.fields.Fields.{Fields}
@@ -14,11 +12,11 @@ use Rattle.essa_state.specs.PageValue.{PageValue}
 use Rattle.essa_state.specs.PageValueLaws.{MayBecome-refl, MayBecome-trans}
 use Rattle.cmm_storage.specs.StorageView.{zeros, touched_contents}
 use Rattle.cmm_storage.specs.declared.storage.Trap.TheVariants.{Discarded, Paging}
-use Rattle.host_plain.specs.MemoryState.{MemoryState, IsMemory, IsWholeBody, opening_word, no_body, word_at, body_at, value_at, with_page, with_use, with_bytes, frames_of}
+use Rattle.host_plain.specs.MemoryState.{MemoryState, IsMemory, opening_word, no_body, word_at, body_at, value_at, with_moved, with_use, with_bytes}
 use Rattle.host_plain.specs.Eviction.{Paged, moved_page, brought_at, freed}
 use Rattle.host_plain.specs.Touches.{Touched, used_after, zeroed_at, filled, filled_after, touched_page}
 use Rattle.host_plain.specs.Keeping.{HostKeeps, TouchKeeps, TouchLeaves, SamePage}
-use Rattle.host_plain.proofs.Kept.{use_kept, zeroed_kept, frames_of-absent}
+use Rattle.host_plain.proofs.Kept.{use_kept, zeroed_kept}
 use Rattle.host_plain.proofs.Keeping.{keeps-refl, busy_set, freed-keeps, freed-absent, freed-frees, brought_at-keeps}
 
 -- what the host keeps, a touch keeps
@@ -39,9 +37,9 @@ touch-either true m k l page first second = first
 touch-either false m k l page first second = second
 
 -- another word and body at the page, which isn't busy otherwise than before
-page_touched : (m : MemoryState) (page : ℕ) (word : Fields) (body : Body) (left : ℕ) → page < length m.words → word.busy ≡ (word_at m page).busy →
-    IsMemory (record (with_page m page word body) { free = left }) → TouchKeeps m page (record (with_page m page word body) { free = left })
-page_touched m page word body left below same sound = record {
+page_touched : (m : MemoryState) (page : ℕ) (word : Fields) (body : Body) → page < length m.words → word.busy ≡ (word_at m page).busy →
+    IsMemory (with_moved m page word body) → TouchKeeps m page (with_moved m page word body)
+page_touched m page word body below same sound = record {
   sound = sound;
   count = length-set m.words page word;
   frames = refl;
@@ -51,29 +49,19 @@ page_touched m page word body left below same sound = record {
 
 pub used-keeps : (m : MemoryState) (page : ℕ) → IsMemory m → page < length m.words → is_resident (word_at m page).content ≡ true → TouchKeeps m page (with_use m page)
 used-keeps m page sound below resident = record {
-  sound = use_kept m.words m.bodies m.frames m.free m.hand page (word_at m page) (record (word_at m page) { referenced = true }) sound below refl resident refl;
+  sound = use_kept m page sound below resident;
   count = length-set m.words page _;
   frames = refl;
   busy = busy_set m page (record (word_at m page) { referenced = true }) below refl;
   others = λ place other. rw (get_or-set_other m.words page place (record (word_at m page) { referenced = true }) opening_word other) (MayBecome-refl (value_at m place));
 }
 
-zeros-whole : length zeros ≡ PAGE
-unfolding zeros
-zeros-whole = length-replicate {A = ℕ} PAGE 0
-
-with_zeros-whole : (body : Body) → IsWholeBody body → IsWholeBody (with_bytes body zeros)
-with_zeros-whole body whole = record { block = whole.block; bytes = λ some. zeros-whole }
-
 zero-absent : (w : Fields) → is_zero w.content ≡ true → is_resident w.content ≡ false
 zero-absent w h = grind arith
 
 zeroed-keeps : (m : MemoryState) (page : ℕ) → IsMemory m → page < length m.words → is_zero (word_at m page).content ≡ true → 0 < m.free → TouchKeeps m page (zeroed_at m page)
 zeroed-keeps m page sound below blank frame =
-    let none : frames_of (word_at m page) ≡ 0 = frames_of-absent (word_at m page) (zero-absent (word_at m page) blank) in
-    page_touched m page (brought (word_at m page)) (with_bytes (body_at m page) zeros) (m.free + frames_of (word_at m page) - frames_of (brought (word_at m page))) below refl
-    (zeroed_kept m.words m.bodies m.frames m.free m.hand page (word_at m page) (brought (word_at m page)) (with_bytes (body_at m page) zeros) _ sound below refl blank refl refl
-    (with_zeros-whole (body_at m page) (sound.pages page below).whole) (omega (arith, none, frame)))
+    page_touched m page (brought (word_at m page)) (with_bytes (body_at m page) zeros) below refl (zeroed_kept m page sound below blank frame)
 
 zero-else : (w : Fields) → is_resident w.content ≡ false → is_preserved w.content ≡ false → is_zero w.content ≡ true
 zero-else w a b = grind arith
@@ -107,9 +95,9 @@ StepLeaves true m page k = (is_resident (word_at k page).content ≡ true) × (v
 StepLeaves false m page k = SamePage m page k
 
 -- a resident page with another word and body
-page_left : (m : MemoryState) (page : ℕ) (word : Fields) (body : Body) (left : ℕ) → IsMemory m → page < length m.words → is_resident word.content ≡ true →
-    actual word body ≡ touched_value (value_at m page) → StepLeaves true m page (record (with_page m page word body) { free = left })
-page_left m page word body left sound below resident value =
+page_left : (m : MemoryState) (page : ℕ) (word : Fields) (body : Body) → IsMemory m → page < length m.words → is_resident word.content ≡ true →
+    actual word body ≡ touched_value (value_at m page) → StepLeaves true m page (with_moved m page word body)
+page_left m page word body sound below resident value =
     let other : page < length m.bodies = omega (arith, below, sound.same) in (
       rw (get_or-set_same m.words page word opening_word below) resident,
       rw (get_or-set_same m.words page word opening_word below, get_or-set_same m.bodies page body no_body other) value,
@@ -121,14 +109,14 @@ filled-leaves m page pager sound below absent kept = at (is_preserved (word_at m
   where
     got : (b : Bool) → is_preserved (word_at m page).content ≡ true → StepLeaves (not b) m page (if b then m else brought_at m page)
     got true there = (refl, refl)
-    got false there = page_left m page (brought (word_at m page)) (moved_body Bring (body_at m page)) (m.free + frames_of (word_at m page) - frames_of (brought (word_at m page))) sound below refl (brought-value (word_at m page) (body_at m page) there)
+    got false there = page_left m page (brought (word_at m page)) (moved_body Bring (body_at m page)) sound below refl (brought-value (word_at m page) (body_at m page) there)
 
     at : (b : Bool) → is_preserved (word_at m page).content ≡ b →
         StepLeaves (if b then moved_page Bring m page pager else record { done = true; memory = zeroed_at m page; pager = pager }).done m page
         (if b then moved_page Bring m page pager else record { done = true; memory = zeroed_at m page; pager = pager }).memory
     at true there = got (fails_next pager) there
     at false blank =
-        page_left m page (brought (word_at m page)) (with_bytes (body_at m page) zeros) (m.free + frames_of (word_at m page) - frames_of (brought (word_at m page))) sound below refl (zeroed-value (word_at m page) (body_at m page) (zero-else (word_at m page) absent blank) kept)
+        page_left m page (brought (word_at m page)) (with_bytes (body_at m page) zeros) sound below refl (zeroed-value (word_at m page) (body_at m page) (zero-else (word_at m page) absent blank) kept)
 
 -- the same from the memory before it, where the page was as it is now
 leaves_from : (b : Bool) (m k l : MemoryState) (page : ℕ) → SamePage m page k → StepLeaves b k page l → StepLeaves b m page l

@@ -1,5 +1,5 @@
 -- The host of several guests, and what each call on the pages of the one that it serves does. Nothing is left free.
-use Rattle.std.specs.Prelude.{◌≡◌, ◌≢◌, ℕ, ◌+◌, ◌-◌, ◌≤◌, ◌<◌, List, [], length, take, drop, Bool, true, false, ◌||◌, Option, Some, None, Ok, Err, is_ok, slice_index_or, slice_set, map, sum, Result}
+use Rattle.std.specs.Prelude.{◌≡◌, ◌≢◌, ℕ, ◌+◌, ◌-◌, ◌≤◌, ◌<◌, List, [], length, take, drop, Bool, true, false, ◌||◌, Option, Some, None, Ok, Err, is_ok, is_some, slice_get, slice_index_or, slice_set, map, sum, Result}
 use Rattle.std.specs.List.{range_with_len}
 use Rattle.cmm_types.specs.declared.page.TheConstants.{PAGE}
 use Rattle.cmm_types.specs.declared.page.Move.{Move}
@@ -14,6 +14,7 @@ use Rattle.essa_state.specs.PageBody.{frame_bytes}
 use Rattle.cmm_storage.specs.StorageCall.{StorageCall, Take, Touch, Give, TakeChange, Fetch, Store, Put}
 use Rattle.cmm_storage.specs.StorageView.{StorageView}
 use Rattle.host_plain.specs.MemoryState.{MemoryState, IsMemory, word_at, body_at, value_at, with_word, stored_at, old_of, opening_memory}
+use Rattle.host_plain.specs.Numbering.{number_at}
 use Rattle.host_plain.specs.HostMoves.{Applied, Reclaimed, applied, reclaimed}
 use Rattle.host_plain.specs.Touches.{Touched, touched_page}
 use Rattle.host_plain.specs.declared.moves.ApplyError.{ApplyError}
@@ -205,6 +206,19 @@ pub record IsHost (h : HostState) : Type 0 where
   pub busy : (page : ℕ) → h.held ≡ Some page → (host_word h page).busy ≡ true
   pub others : (place : ℕ) → (word_at h.memory place).busy ≡ true → held_place h h.held ≡ Some place
   pub resident : (page : ℕ) → h.held ≡ Some page → h.touched ≡ true → is_resident (host_word h page).content ≡ true
+
+-- the number of the frame of a guest's page
+abbrev pub frame_of : HostState → ℕ → ℕ → Option ℕ
+frame_of h guest page = number_at h.memory.numbers (start_of h guest + page)
+
+-- each resident page, and no other, has a frame of the host's; no other page of any guest has the same one, and it
+-- isn't free
+pub record HaveOwnFrames (h : HostState) : Type 0 where
+  pub resident : (guest page : ℕ) → is_some (frame_of h guest page) ≡ is_resident (word_of h guest page).content
+  pub below : (guest page number : ℕ) → frame_of h guest page ≡ Some number → number < h.memory.frames
+  pub apart : (guest page other at number : ℕ) → guest < length h.pagers → page < pages_of h guest → other < length h.pagers → at < pages_of h other →
+      frame_of h guest page ≡ Some number → frame_of h other at ≡ Some number → (guest ≡ other) × (page ≡ at)
+  pub free : (guest page k number : ℕ) → frame_of h guest page ≡ Some number → slice_get h.memory.numbers.spare k ≡ Some number → ⊥
 
 -- what every call on a page of the served guest leaves: a sound host, and all else alone
 pub record Leaves (h : HostState) (page : ℕ) (k : HostState) : Type 0 where

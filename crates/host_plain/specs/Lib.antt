@@ -1,4 +1,6 @@
+pub mod Numbering
 pub mod MemoryState
+pub mod Bodies
 pub mod Eviction
 pub mod Touches
 pub mod HostMoves

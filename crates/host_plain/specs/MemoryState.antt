@@ -1,5 +1,6 @@
 -- The pages of all guests as the host keeps them, with its free frames and the hand of its clock.
-use Rattle.std.specs.Prelude.{◌≡◌, ℕ, ◌+◌, ◌-◌, ◌≤◌, ◌<◌, List, [], ◌∷◌, length, true, false, Some, None, is_some, if◌then◌else◌, slice_index_or, slice_set, map, replicate}
+use Rattle.std.specs.Prelude.{◌≡◌, ℕ, ◌+◌, ◌-◌, ◌≤◌, ◌<◌, List, [], ◌∷◌, length, true, false, Some, None, is_some, nat_lt, if◌then◌else◌, slice_index_or, slice_set, map, replicate}
+use Rattle.std.specs.List.{sum_by}
 use Rattle.cmm_types.specs.declared.page.TheConstants.{PAGE}
 use Rattle.cmm_types.specs.declared.plan.TheConstants.{MAX_FRAMES, MAX_TOTAL_PAGES}
 use Rattle.cmm_types.specs.declared.page.Usage.TheVariants.{U}
@@ -12,14 +13,16 @@ use Rattle.essa_state.specs.StateWord.{is_resident, is_permitted}
 use Rattle.essa_state.specs.PageValue.{PageValue}
 use Rattle.cmm_storage.specs.StorageView.{write_at}
 use Rattle.essa_state.specs.PageBody.{Body, FitsWord, actual, frame_bytes}
+use Rattle.host_plain.specs.Numbering.{Numbering, number_at, renumbered, is_taken, is_number, opening_numbers}
 
--- the word and the body of each page, guest by guest and page by page; how many frames there are, and how many of
--- them are free; and the hand
+-- the word and the body of each page, guest by guest and page by page; how many frames there are, how many of them are
+-- free, and which one each page has; and the hand
 pub record MemoryState : Type 0 where
   pub words : List Fields
   pub bodies : List Body
   pub frames : ℕ
   pub free : ℕ
+  pub numbers : Numbering
   pub hand : ℕ
 
 -- unused, without contents, and never discarded
@@ -50,7 +53,10 @@ frames_of word = if is_resident word.content then 1 else 0
 
 -- the page at a place with another word and body, whose frame was free before or is free now
 abbrev pub with_moved : MemoryState → ℕ → Fields → Body → MemoryState
-with_moved m place word body = record (with_page m place word body) { free = m.free + frames_of (word_at m place) - frames_of word }
+with_moved m place word body = record (with_page m place word body) {
+  free = m.free + frames_of (word_at m place) - frames_of word;
+  numbers = renumbered m.numbers place (is_some (body_at m place).frame) (is_some body.frame);
+}
 
 -- a body with these bytes in its frame
 abbrev pub with_bytes : Body → List ℕ → Body
@@ -86,13 +92,12 @@ abbrev pub resident_of : List Fields → ℕ
 resident_of [] = 0
 resident_of (word ∷ words) = frames_of word + resident_of words
 
-abbrev pub frames_in : Body → ℕ
-frames_in body = if is_some body.frame then 1 else 0
-
--- how many of these bodies have a frame
-abbrev pub framed_of : List Body → ℕ
-framed_of [] = 0
-framed_of (body ∷ bodies) = frames_in body + framed_of bodies
+-- the resident pages have a frame's number each, and each of so many numbers is that of one page, or of one spare frame,
+-- and of no more
+pub record IsNumbering (frames : ℕ) (words : List Fields) (n : Numbering) : Type 0 where
+  pub count : length n.taken ≡ length words
+  pub resident : (place : ℕ) → is_some (number_at n place) ≡ is_resident (slice_index_or words place opening_word).content
+  pub once : (number : ℕ) → sum_by (is_taken number) n.taken + sum_by (is_number number) n.spare ≡ (if nat_lt number frames then 1 else 0)
 
 -- one word and one body a page, of 1 to MAX_TOTAL_PAGES pages; the hand is at a page; and each of the 1 to MAX_FRAMES
 -- frames is free or has a resident page
@@ -104,6 +109,8 @@ pub record IsMemory (m : MemoryState) : Type 0 where
   pub hand : m.hand < length m.words
   pub pages : (place : ℕ) → place < length m.words → IsPage (word_at m place) (body_at m place)
   pub balance : m.free + resident_of m.words ≡ m.frames
+  pub spare : length m.numbers.spare ≡ m.free
+  pub numbers : IsNumbering m.frames m.words m.numbers
 
 -- a body without a frame
 abbrev pub frameless : List ℕ → Body
@@ -116,5 +123,6 @@ opening_memory blocks frames = record {
   bodies = map frameless blocks;
   frames = frames;
   free = frames;
+  numbers = opening_numbers (length blocks) frames;
   hand = 0;
 }

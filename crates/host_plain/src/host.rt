@@ -1,14 +1,15 @@
 // The host: all pages, and the guests that they are of, with their pagers.
-ghost use Rattle.std.specs.Prelude.{◌≡◌, ◌<◌, ◌+◌, ◌-◌, ◌≤◌, ℕ, All, length, take, drop, true, false, None, Some, Ok, Err, is_ok, IfOk, sum, slice_index_or, vec_len, vec_capacity};
+ghost use Rattle.std.specs.Prelude.{◌≡◌, ◌<◌, ◌+◌, ◌-◌, ◌≤◌, ℕ, [], All, length, take, drop, true, false, None, Some, Ok, Err, is_ok, IfOk, sum, slice_index_or, vec_len, vec_capacity};
 ghost use Rattle.cmm_types.specs.declared.page.TheConstants.{PAGE};
 ghost use Rattle.cmm_types.specs.declared.plan.TheConstants.{MAX_FRAMES, MAX_TOTAL_PAGES};
 ghost use Rattle.cmm_io.specs.Faults.{HasRisen};
 ghost use Rattle.cmm_storage.specs.StorageCall.{Take, Touch, Give, TakeChange, Fetch, Store, Put};
 ghost use Rattle.cmm_storage.specs.StorageView.{Follows};
+ghost use Rattle.page_arena.specs.FrameView.{IsOf, missing};
 ghost use Rattle.host_plain.specs.MemoryState.{resident_of};
 ghost use Rattle.host_plain.specs.Keeping.{faults_of};
 ghost use Rattle.host_plain.specs.Served.{host_of};
-ghost use Rattle.host_plain.specs.HostState.{HostState, HostStep, IsHost, Leaves, host_view, host_word, place_of, start_of, pages_of, pager_of, words_of, served, HostMayMake, ApplyTells, opening, starts_of, after_move, move_of, after_reclaim, reclaim_of};
+ghost use Rattle.host_plain.specs.HostState.{HostState, HostStep, IsHost, Leaves, HaveOwnFrames, host_view, host_word, place_of, start_of, pages_of, pager_of, words_of, served, HostMayMake, ApplyTells, opening, starts_of, after_move, move_of, after_reclaim, reclaim_of};
 
 use crate::memory::Memory;
 use crate::moves::{ApplyError, Reclaim};
@@ -90,8 +91,6 @@ impl Host {
         ensures sound { IfOk result (λ host. IsHost host) }
     {
         let starts = starts_of(alloc, pages)?;
-        // The frames go to whoever closes the host, and no call closes their region.
-        let (_region, frames) = Region::new(alloc, frames)?;
         let memory = Memory::open(alloc, blocks, frames)?;
         Ok(Host {
             memory,
@@ -160,20 +159,26 @@ impl Host {
         )
     }
 
-    /// How many pages of all guests are resident.
+    /// How many pages of all guests are resident. Each of them has a frame of its own.
     pub fn resident(&self) -> u32
         ensures count { result ≡ resident_of self.now.memory.words }
         ensures most { result ≤ self.now.memory.frames }
+        ensures own_frames { HaveOwnFrames self.now }
     {
         self.memory.resident() as u32
     }
 
-    /// Moves all frames into the list, which has room for them: those that are free, and those that pages have.
-    pub fn close(self, into: &mut Vec<Frame>)
+    /// Gives the region back, and moves all its frames behind those in the list, which has room for them. So the region
+    /// can be closed with the frames that were moved: none is missing. It takes no memory.
+    pub fn close(self, into: &mut Vec<Frame>) -> Region
         requires room { vec_len into.old + self.memory.frames ≤ vec_capacity into.old }
+        ensures count { result.count ≡ self.memory.frames }
         ensures frames { vec_len into.new ≡ vec_len into.old + self.memory.frames }
+        ensures before { take (vec_len into.old) into.new.items ≡ into.old.items }
+        ensures of_region { All (IsOf result) (drop (vec_len into.old) into.new.items) }
+        ensures all { missing result.count (drop (vec_len into.old) into.new.items) ≡ [] }
     {
-        self.memory.close(into);
+        self.memory.close(into)
     }
 
     // The place of the served guest's page.

@@ -2,6 +2,7 @@
 //! the paging store; it serves one guest's storage at a time, and makes moves of its own between.
 #![tactic(auto)]
 
+mod bodies;
 mod body;
 mod host;
 mod marks;

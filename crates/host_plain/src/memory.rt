@@ -1,5 +1,5 @@
-// The pages of all guests, the free frames and the hand, and what the host does to them.
-ghost use Rattle.std.specs.Prelude.{◌≡◌, ◌<◌, ◌+◌, ◌≤◌, ℕ, length, take, drop, true, false, Some, Ok, is_ok, IfOk, All, map, vec_len, vec_capacity};
+// The pages of all guests with their frames, and the hand, and what the host does to them.
+ghost use Rattle.std.specs.Prelude.{◌≡◌, ◌<◌, ◌+◌, ◌≤◌, ℕ, [], All, length, take, drop, true, false, Some, Ok, is_ok, IfOk, vec_len, vec_capacity};
 ghost use Rattle.cmm_types.specs.declared.page.TheConstants.{PAGE};
 ghost use Rattle.cmm_types.specs.declared.plan.TheConstants.{MAX_FRAMES, MAX_TOTAL_PAGES};
 ghost use Rattle.cmm_types.specs.declared.page.Move.TheVariants.{Preserve, Bring};
@@ -7,13 +7,14 @@ ghost use Rattle.essa_state.specs.StateWord.{is_permitted, is_resident, is_prese
 ghost use Rattle.essa_state.specs.Moves.{move_answer, discard_answer, preserve_answer};
 ghost use Rattle.essa_state.specs.Orders.{after_order};
 ghost use Rattle.essa_state.specs.PageBody.{frame_bytes};
-ghost use Rattle.host_plain.specs.MemoryState.{IsMemory, IsPage, word_at, body_at, with_word, with_use, stored_at, old_of, resident_of, frameless, IsWholeBody, frames_in, framed_of, opening_memory};
+ghost use Rattle.page_arena.specs.FrameView.{IsOf, missing};
+ghost use Rattle.host_plain.specs.MemoryState.{IsMemory, IsPage, word_at, body_at, with_word, with_use, stored_at, old_of, resident_of, opening_memory};
 ghost use Rattle.host_plain.specs.Eviction.{passed, passed_by, discarded_at, moved_page, reclaimed_page, evicted_at, freed};
 ghost use Rattle.host_plain.specs.Touches.{touched_page, zeroed_at, filled, filled_after};
 ghost use Rattle.host_plain.specs.Keeping.{HostKeeps};
 ghost use Rattle.host_plain.specs.HostMoves.{allowed_move, applied, reclaimed};
 
-use crate::body::PageBody;
+use crate::bodies::Bodies;
 use crate::moves::{ApplyError, Reclaim};
 use crate::words::Words;
 use cmm_io::Failed;
@@ -21,30 +22,27 @@ use cmm_pager::{MemBlock, MemPager};
 use cmm_storage::Trap;
 use cmm_types::{Content, MAX_FRAMES, MAX_TOTAL_PAGES, Move};
 use essa_state::{Fields, Old, Order, Word, apply_order, host_move, reclaiming_move};
-use page_arena::Frame;
+use page_arena::{Frame, Region};
 use std::alloc::{AllocError, Global};
 use std::marker::Model;
 
 #[derive(Drop)]
 pub struct Memory {
     words: Words,
-    bodies: Vec<PageBody>,
-    // Has room for all frames.
-    free: Vec<Frame>,
-    frames: usize,
+    bodies: Bodies,
     hand: usize,
 }
 
 impl Model for Memory {
-    ghost use Rattle.std.specs.Prelude.{◌≤◌, length, vec_len, vec_capacity};
+    ghost use Rattle.std.specs.Prelude.{length};
     ghost use Rattle.host_plain.specs.MemoryState.{MemoryState, IsMemory};
+    ghost use Rattle.host_plain.specs.Bodies.{memory_of};
 
     ghost Value = { MemoryState };
 
-    ghost view = { λ m. record { words = m.words; bodies = m.bodies.items; frames = m.frames; free = vec_len m.free; hand = m.hand } };
+    ghost view = { λ m. memory_of m.words m.bodies m.hand };
 
-    ghost invariant = { λ m. IsMemory (record { words = m.words; bodies = m.bodies.items; frames = m.frames; free = vec_len m.free; hand = m.hand })
-        × (m.frames ≤ vec_capacity m.free) };
+    ghost invariant = { λ m. IsMemory (memory_of m.words m.bodies m.hand) };
 }
 
 // How many words the hand passes on its way to the victim.
@@ -74,86 +72,33 @@ fn moved(word: Word, action: Move) -> Word
     }
 }
 
-// Puts a frame among the free ones, where there is room.
-fn give_back(free: &mut Vec<Frame>, frame: Frame)
-    requires room { vec_len free.old < vec_capacity free.old }
-    ensures len { vec_len free.new ≡ vec_len free.old + 1 }
-    ensures room { vec_capacity free.old ≤ vec_capacity free.new }
-{
-    match free.push(frame) {
-        Ok(()) => (),
-        Err(_) => unreachable!(),
-    }
-}
-
-// A body without a frame for each block.
-fn bodies_of(alloc: Global, blocks: Vec<MemBlock>) -> Result<Vec<PageBody>, AllocError>
-    ensures bodies { IfOk result (λ bodies. bodies.items ≡ map frameless blocks.items) }
-    ensures whole { IfOk result (λ bodies. All IsWholeBody bodies.items) }
-{
-    let mut bodies = Vec::with_capacity(alloc, blocks.len())?;
-    for block in blocks {
-        bodies.push(PageBody::new(block))?;
-    }
-    Ok(bodies)
-}
-
-// Moves the body's frame, if it has one, into the list, which has room for it.
-fn take_frame(mut body: PageBody, into: &mut Vec<Frame>)
-    requires room { vec_len into.old + frames_in body ≤ vec_capacity into.old }
-    ensures len { vec_len into.new ≡ vec_len into.old + frames_in body }
-    ensures room { vec_capacity into.old ≤ vec_capacity into.new }
-{
-    if let Some(frame) = body.discard() {
-        give_back(into, frame);
-    }
-}
-
-// Moves the frames of all bodies into the list, which has room for them.
-fn take_frames(mut bodies: Vec<PageBody>, into: &mut Vec<Frame>)
-    requires room { vec_len into.old + framed_of bodies.items ≤ vec_capacity into.old }
-    ensures { vec_len into.new ≡ vec_len into.old + framed_of bodies.items }
-{
-    while let Some(body) = bodies.pop() {
-        take_frame(body, into);
-    }
-}
-
 impl Memory {
-    /// Unused pages without contents, one with each block, and these frames, which are all free.
-    pub fn open(
-        alloc: Global,
-        blocks: Vec<MemBlock>,
-        mut frames: Vec<Frame>,
-    ) -> Result<Memory, AllocError>
+    /// Unused pages without contents, one with each block, and `frames` frames, which are all free.
+    pub fn open(alloc: Global, blocks: Vec<MemBlock>, frames: u32) -> Result<Memory, AllocError>
         requires some_pages { 0 < length blocks.items }
         requires most_pages { length blocks.items ≤ MAX_TOTAL_PAGES }
-        requires some_frames { 0 < length frames.items }
-        requires most_frames { length frames.items ≤ MAX_FRAMES }
-        ensures memory { IfOk result (λ memory. memory ≡ opening_memory blocks.items (length frames.items)) }
+        requires some_frames { 0 < frames }
+        requires most_frames { frames ≤ MAX_FRAMES }
+        ensures memory { IfOk result (λ memory. memory ≡ opening_memory blocks.items frames) }
         ensures sound { IfOk result (λ memory. IsMemory memory) }
     {
-        let count = frames.len();
-        let mut free = Vec::with_capacity(alloc, count)?;
-        free.append(&mut frames)?;
         Ok(Memory {
             words: Words::open(alloc, blocks.len())?,
-            bodies: bodies_of(alloc, blocks)?,
-            free,
-            frames: count,
+            bodies: Bodies::open(alloc, blocks, frames)?,
             hand: 0,
         })
     }
 
-    /// Moves all frames into the list, which has room for them.
-    pub fn close(mut self, into: &mut Vec<Frame>)
+    /// The region, and all its frames, which go behind those in the list. The list has room for them.
+    pub fn close(self, into: &mut Vec<Frame>) -> Region
         requires room { vec_len into.old + self.frames ≤ vec_capacity into.old }
-        ensures { vec_len into.new ≡ vec_len into.old + self.frames }
+        ensures count { result.count ≡ self.frames }
+        ensures len { vec_len into.new ≡ vec_len into.old + self.frames }
+        ensures before { take (vec_len into.old) into.new.items ≡ into.old.items }
+        ensures of_region { All (IsOf result) (drop (vec_len into.old) into.new.items) }
+        ensures all { missing result.count (drop (vec_len into.old) into.new.items) ≡ [] }
     {
-        match into.append(&mut self.free) {
-            Ok(()) => take_frames(self.bodies, into),
-            Err(_) => unreachable!(),
-        }
+        self.bodies.close(into)
     }
 
     pub fn words(&self) -> &[Word]
@@ -167,7 +112,7 @@ impl Memory {
         ensures count { result ≡ resident_of self.now.words }
         ensures most { result ≤ self.now.frames }
     {
-        self.frames - self.free.len()
+        self.bodies.framed()
     }
 
     pub fn fields(&self, place: usize) -> Fields
@@ -205,7 +150,7 @@ impl Memory {
         requires within { off + length into.old ≤ PAGE }
         ensures { into.new ≡ take (length into.old) (drop off (frame_bytes (body_at self.now place))) }
     {
-        self.bodies[place].fetch(off, into);
+        self.bodies.fetch(place, off, into);
     }
 
     /// Writes bytes of the page, and sets its change bit.
@@ -215,8 +160,7 @@ impl Memory {
         requires within { off + length from.now ≤ PAGE }
         ensures { self.new ≡ stored_at self.old place off from.now }
     {
-        let body = &mut self.bodies[place];
-        body.store(off, from);
+        self.bodies.store(place, off, from);
         let word = self.words.get(place);
         let changed = Word::new(Fields {
             changed: true,
@@ -246,10 +190,7 @@ impl Memory {
     {
         let word = self.words.get(place);
         self.words.set(place, moved(word, Move::Discard));
-        let body = &mut self.bodies[place];
-        if let Some(frame) = body.discard() {
-            give_back(&mut self.free, frame);
-        }
+        self.bodies.discard(place);
     }
 
     fn preserve(&mut self, place: usize, pager: &mut MemPager) -> Result<(), Failed>
@@ -259,12 +200,10 @@ impl Memory {
         ensures memory { self.new ≡ (moved_page Preserve self.old place pager.old).memory }
         ensures pager { pager.new ≡ (moved_page Preserve self.old place pager.old).pager }
     {
-        let body = &mut self.bodies[place];
-        match body.preserve(pager) {
-            Ok(frame) => {
+        match self.bodies.preserve(place, pager) {
+            Ok(()) => {
                 let word = self.words.get(place);
                 self.words.set(place, moved(word, Move::Preserve));
-                give_back(&mut self.free, frame);
                 Ok(())
             }
             Err(failed) => Err(failed),
@@ -280,18 +219,13 @@ impl Memory {
         ensures memory { self.new ≡ (moved_page Bring self.old place pager.old).memory }
         ensures pager { pager.new ≡ (moved_page Bring self.old place pager.old).pager }
     {
-        let frame = self.free.pop().unwrap();
-        let body = &mut self.bodies[place];
-        match body.bring(frame, pager) {
+        match self.bodies.bring(place, pager) {
             Ok(()) => {
                 let word = self.words.get(place);
                 self.words.set(place, moved(word, Move::Bring));
                 Ok(())
             }
-            Err(unused) => {
-                give_back(&mut self.free, unused);
-                Err(Failed)
-            }
+            Err(failed) => Err(failed),
         }
     }
 
@@ -302,9 +236,7 @@ impl Memory {
         requires frame { 0 < self.old.free }
         ensures { self.new ≡ zeroed_at self.old place }
     {
-        let frame = self.free.pop().unwrap();
-        let body = &mut self.bodies[place];
-        body.fill(frame);
+        self.bodies.fill(place);
         let word = self.words.get(place);
         let changed = Word::new(Fields {
             content: Content::Resident,
@@ -367,7 +299,7 @@ impl Memory {
         ensures count { length self.new.words ≡ length self.old.words }
         ensures absent { (place : ℕ) → is_resident (word_at self.old place).content ≡ false → word_at self.new place ≡ word_at self.old place }
     {
-        if !self.free.is_empty() {
+        if self.bodies.free() > 0 {
             return Ok(());
         }
         match self.words.victim(self.hand) {

@@ -1,4 +1,4 @@
-ghost use Rattle.std.specs.Prelude.{◌≡◌, ◌<◌, ◌≤◌, [], ◌∷◌, length, None, Ok, IfOk};
+ghost use Rattle.std.specs.Prelude.{◌≡◌, ◌<◌, ◌≤◌, [], ◌∷◌, length, None, Ok, IfOk, true};
 ghost use Rattle.host_plain.specs.HostState.{pages_of};
 
 use crate::{ApplyError, Host, Reclaim};
@@ -16,6 +16,7 @@ fn four_pages(alloc: Global, frames: u32, fails: &[u32]) -> Result<Host, AllocEr
     ensures none_held { IfOk result (λ host. host.held ≡ None) }
     ensures guests { IfOk result (λ host. length host.pagers ≡ 1) }
     ensures starts { IfOk result (λ host. host.starts ≡ 0 ∷ 4 ∷ []) }
+    ensures frames { IfOk result (λ host. host.memory.frames ≡ frames) }
 {
     let mut blocks = Vec::new(alloc);
     blocks.push(MemBlock::open(alloc)?)?;
@@ -36,6 +37,7 @@ fn fill(host: &mut Host, page: u32, byte: u8, code: Order) -> Result<(), Trap>
     ensures none_held { host.new.held ≡ None }
     ensures guests { length host.new.pagers ≡ length host.old.pagers }
     ensures starts { host.new.starts ≡ host.old.starts }
+    ensures frames { host.new.memory.frames ≡ host.old.memory.frames }
 {
     let mut view = host.view(0);
     let _ = view.take(page);
@@ -149,5 +151,24 @@ fn moves_are_made_or_refused(rt: HostRuntime) -> Result<(), Fail> {
         assert_eq!(rt; host.words(0)[0].raw(), word, "{action:?}");
         assert_eq!(rt; host.resident(), resident, "{action:?}");
     }
+    Ok(())
+}
+
+/// Closes the host, and its region with what the host gives back.
+fn close_whole(alloc: Global, host: Host, most: usize) -> Result<bool, AllocError>
+    requires most { host.memory.frames ≤ most }
+    ensures closed { IfOk result (λ closed. closed ≡ true) }
+{
+    let mut frames = Vec::with_capacity(alloc, most)?;
+    let region = host.close(&mut frames);
+    Ok(region.close(frames).is_ok())
+}
+
+#[test]
+fn a_closed_host_gives_its_region_with_all_frames(rt: HostRuntime) -> Result<(), Fail> {
+    let mut host = four_pages(rt.alloc(), 3, &[])?;
+    assert!(rt; fill(&mut host, 2, 97, Order::SetStable).is_ok());
+    assert!(rt; fill(&mut host, 1, 98, Order::SetVolatile).is_ok());
+    assert!(rt; close_whole(rt.alloc(), host, 3)?);
     Ok(())
 }

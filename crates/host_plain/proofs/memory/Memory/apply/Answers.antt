@@ -8,7 +8,7 @@ use Rattle.host_plain.proofs.memory.Memory.apply.Goals as goal
 
 pub returns-in-Ok-make_move-clause-keeps : goal.returns-in-Ok-make_move-clause-keeps
 returns-in-Ok-make_move-clause-keeps c =
-    let sound : IsMemory c.args.self.now = subst IsMemory c.self.view_is c.self.invariant.0 in
+    let sound : IsMemory c.args.self.now = subst IsMemory c.self.view_is c.self.invariant in
     let found : c.get.result ≡ word_at c.args.self.now c.args.place =
     c.get.ensures ∙ ap (λ (m : MemoryState). word_at m c.args.place) c.self.view_is in
     let allowed : is_ok (move_answer (word_at c.args.self.now c.args.place) c.args.action) ≡ true =
@@ -18,7 +18,7 @@ returns-in-Ok-make_move-clause-keeps c =
 
 pub returns-in-Err-make_move-clause-keeps : goal.returns-in-Err-make_move-clause-keeps
 returns-in-Err-make_move-clause-keeps c =
-    let sound : IsMemory c.args.self.now = subst IsMemory c.self.view_is c.self.invariant.0 in
+    let sound : IsMemory c.args.self.now = subst IsMemory c.self.view_is c.self.invariant in
     let found : c.get.result ≡ word_at c.args.self.now c.args.place =
     c.get.ensures ∙ ap (λ (m : MemoryState). word_at m c.args.place) c.self.view_is in
     let allowed : is_ok (move_answer (word_at c.args.self.now c.args.place) c.args.action) ≡ true =

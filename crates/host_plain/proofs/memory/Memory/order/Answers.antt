@@ -1,10 +1,13 @@
-use Rattle.std.proofs.Common.{◌≡◌, ◌<◌, length, rules, slice_index_or}
-use Rattle.host_plain.specs.MemoryState.{opening_word}
+use Rattle.std.proofs.Common.{rules, subst}
+use Rattle.host_plain.specs.MemoryState.{MemoryState, IsMemory}
 use Rattle.host_plain.proofs.Kept.{order_kept}
+use Rattle.host_plain.proofs.Seen.{sound-by}
 use Rattle.host_plain.proofs.memory.Memory.order.Goals as goal
+
+pub returns-clause-memory : goal.returns-clause-memory
+returns-clause-memory c = search rules
 
 pub invariant_of-self : goal.invariant_of-self
 invariant_of-self c =
-    let below : c.args.place < length c.self.inside.words = search rules in
-    let found : c.get.result ≡ slice_index_or c.self.inside.words c.args.place opening_word = c.get.ensures in
-    (rw c.set.ensures (order_kept _ _ _ _ _ c.args.place c.args.code c.get.result c.apply_order-word.result.0 c.self.invariant.0 below found c.apply_order-word.ensures.word), c.self.invariant.1)
+    let sound : IsMemory c.args.self.now = subst (λ (m : MemoryState). IsMemory m) c.self.view_is c.self.invariant in
+    sound-by _ _ (returns-clause-memory c) (order_kept c.args.self.now c.args.place c.args.code sound c.requires)

@@ -1,22 +1,23 @@
-use Rattle.std.proofs.Common.{◌≡◌, ◌<◌, length, rules, ap, true, arith, slice_index_or, is_some}
-use Rattle.essa_state.specs.StateWord.{is_resident}
-use Rattle.essa_state.specs.PageBody.{Body}
-use Rattle.host_plain.specs.MemoryState.{opening_word}
-use Rattle.host_plain.proofs.Kept.{preserve_kept, preserved-resident, room_for}
+use Rattle.std.proofs.Common.{◌∙◌, ap, arith, subst, sym, slice_set}
+use Rattle.std.specs.Prelude.{refl}
+use Rattle.cmm_types.specs.declared.page.Move.TheVariants.{Preserve}
+use Rattle.cmm_io.specs.FailurePlan.{fails_next}
+use Rattle.essa_state.specs.Moves.{preserved}
+use Rattle.essa_state.specs.PageBody.{moved_body}
+use Rattle.host_plain.specs.MemoryState.{MemoryState, IsMemory}
+use Rattle.host_plain.specs.Eviction.{preserved_at}
+use Rattle.host_plain.proofs.Keeping.{preserved_at-keeps}
+use Rattle.host_plain.proofs.Seen.{sound-by, moved, preserved-word, after-good}
 use Rattle.host_plain.proofs.memory.Memory.preserve.Goals as goal
 
-pub give_back-requires : goal.give_back-requires
-give_back-requires c =
-    let below : c.args.place < length c.self.inside.words = search rules in
-    let found : c.get-word.result ≡ slice_index_or c.self.inside.words c.args.place opening_word = c.get-word.ensures in
-    let resident : is_resident c.get-word.result.content ≡ true = preserved-resident _ _ _ _ _ c.args.place c.get-word.result c.moved.result c.self.invariant.0 below found c.moved.ensures in
-    record { room = omega (arith, room_for _ _ _ _ _ c.args.place c.get-word.result c.self.invariant.0 below found resident, c.self.invariant.1) }
+pub returns-in-Ok-clause-memory : goal.returns-in-Ok-clause-memory
+returns-in-Ok-clause-memory c =
+    moved c.self.inside.words c.self.inside.bodies c.self.inside.hand c.args.place c.args.self.now c.self.view_is c.self.invariant c.requires.place c.set.new.self c.preserve.new.self preserved (moved_body Preserve)
+    (c.set.ensures ∙ ap (slice_set c.self.inside.words c.args.place) (preserved-word _ c.get-word.result c.moved.result c.get-word.ensures c.moved.ensures)) c.in-Ok.ensures.body refl (omega arith)
+    ∙ sym (after-good (fails_next c.args.pager.now) c.args.self.now (preserved_at c.args.self.now c.args.place) (sym c.in-Ok.ensures.failed))
 
 pub invariant_of-self : goal.invariant_of-self
 invariant_of-self c =
-    let below : c.args.place < length c.self.inside.words = search rules in
-    let found : c.get-word.result ≡ slice_index_or c.self.inside.words c.args.place opening_word = c.get-word.ensures in (
-      rw c.set.ensures (preserve_kept _ _ _ _ _ c.args.place c.get-word.result c.moved.result c.preserve.new.self _ c.self.invariant.0 below found c.moved.ensures
-          (ap (λ (b : Body). is_some b.frame) c.in-Ok.ensures.body) c.preserve.ensures.whole c.give_back.ensures.len),
-      omega (arith, c.self.invariant.1, c.give_back.ensures.room),
-    )
+    let sound : IsMemory c.args.self.now = subst (λ (m : MemoryState). IsMemory m) c.self.view_is c.self.invariant in
+    sound-by _ _ (returns-in-Ok-clause-memory c ∙ after-good (fails_next c.args.pager.now) c.args.self.now (preserved_at c.args.self.now c.args.place) (sym c.in-Ok.ensures.failed))
+    (preserved_at-keeps c.args.self.now c.args.place sound c.requires.place c.requires.allowed).sound

@@ -1,14 +1,13 @@
-use Rattle.std.proofs.Common.{◌≡◌, ◌<◌, length, rules, ap, ◌∙◌, true, slice_index_or}
-use Rattle.essa_state.specs.declared.fields.Fields.{Fields}
-use Rattle.essa_state.specs.StateWord.{is_resident}
-use Rattle.host_plain.specs.MemoryState.{MemoryState, opening_word, word_at}
+use Rattle.std.proofs.Common.{rules, subst}
+use Rattle.host_plain.specs.MemoryState.{MemoryState, IsMemory}
 use Rattle.host_plain.proofs.Kept.{use_kept}
+use Rattle.host_plain.proofs.Seen.{sound-by}
 use Rattle.host_plain.proofs.memory.Memory.use_page.Goals as goal
+
+pub returns : goal.returns
+returns c = search rules
 
 pub invariant_of-self : goal.invariant_of-self
 invariant_of-self c =
-    let below : c.args.place < length c.self.inside.words = search rules in
-    let found : c.get-word.result ≡ slice_index_or c.self.inside.words c.args.place opening_word = c.get-word.ensures in
-    let resident : is_resident c.get-word.result.content ≡ true = ap (λ (w : Fields). is_resident w.content) found ∙ ap (λ (m : MemoryState). is_resident (word_at m c.args.place).content) c.self.view_is ∙ c.requires.resident in
-    let made : c.new-changed.result ≡ record c.get-word.result { referenced = true } = c.new-changed.ensures ∙ ap (λ (w : Fields). record w { referenced = true }) c.fields.ensures.same in
-    (rw c.set.ensures (use_kept _ _ _ _ _ c.args.place c.get-word.result c.new-changed.result c.self.invariant.0 below found resident made), c.self.invariant.1)
+    let sound : IsMemory c.args.self.now = subst (λ (m : MemoryState). IsMemory m) c.self.view_is c.self.invariant in
+    sound-by _ _ (returns c) (use_kept c.args.self.now c.args.place sound c.requires.place c.requires.resident)

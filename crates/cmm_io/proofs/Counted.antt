@@ -1,0 +1,96 @@
+-- A plan's failed calls are at most its different numbers, whatever calls were made.
+use Rattle.std.specs.Prelude.{◌≡◌, ℕ, ◌+◌, ◌-◌, ◌^◌, ◌<◌, ◌≤◌, List, [], ◌∷◌, length, Bool, true, false, cond, ◌==◌, ◌||◌, nat_le, All}
+use Rattle.std.proofs.Common.{refl, sym, ap, subst, arith, ◌∙◌}
+use Rattle.std.proofs.lemmas.Bool.{eqb-true}
+use Rattle.std.proofs.lemmas.Cmp.{nat_eq_equiv}
+use Rattle.std.proofs.lemmas.List.Elements.{All-head, All-tail}
+use Rattle.std.proofs.lemmas.List.Sums.{sum_by-cons, count_by-le-length}
+use Rattle.cmm_io.specs.Faults.{raised}
+use Rattle.cmm_io.specs.FailurePlan.{FailurePlan, in_order, is_in, plan_of, fails_next, after_call, after_next}
+use Rattle.cmm_io.specs.Counted.{IsCounted, distinct, reached}
+use Rattle.cmm_io.proofs.Planned.{is_in-in_order}
+
+abbrev one_if : Bool → ℕ
+one_if b = cond b 1 0
+
+reached-cons : (x : ℕ) (xs : List ℕ) (calls : ℕ) → reached (x ∷ xs) calls ≡ one_if (nat_le x calls) + reached xs calls
+reached-cons x xs calls = sum_by-cons (λ number. one_if (nat_le number calls)) x xs
+
+one_later : (x n m : ℕ) → n ≤ m → one_if (nat_le x n) ≤ one_if (nat_le x m)
+one_later x n m later = grind (arith, later)
+
+one_more : (n m : ℕ) → n < m → one_if (nat_le m n) + 1 ≤ one_if (nat_le m m)
+one_more n m more = grind (arith, more)
+
+-- later calls have reached no fewer
+reached-later : (xs : List ℕ) (n m : ℕ) → n ≤ m → reached xs n ≤ reached xs m
+reached-later [] n m later = omega arith
+reached-later (x ∷ xs) n m later =
+    omega (arith, reached-cons x xs n, reached-cons x xs m, one_later x n m later, reached-later xs n m later)
+
+-- and one more, where a later call's number is planned
+reached-more : (xs : List ℕ) (n m : ℕ) → n < m → is_in xs m ≡ true → reached xs n + 1 ≤ reached xs m
+reached-more [] n m more there = let bad : false ≡ true = there in absurd cc
+reached-more (x ∷ xs) n m more there = at (x == m) refl there (λ behind. reached-more xs n m more behind)
+  where
+    later : n ≤ m
+    later = omega (arith, more)
+
+    at : (b : Bool) → (x == m) ≡ b → (b || is_in xs m) ≡ true → (is_in xs m ≡ true → reached xs n + 1 ≤ reached xs m) → reached (x ∷ xs) n + 1 ≤ reached (x ∷ xs) m
+    at true same there' rest =
+        let one : one_if (nat_le x n) + 1 ≤ one_if (nat_le x m) = subst (λ y. one_if (nat_le y n) + 1 ≤ one_if (nat_le y m)) (sym (eqb-true x m same)) (one_more n m more) in
+        omega (arith, reached-cons x xs n, reached-cons x xs m, one, reached-later xs n m later)
+    at false other behind rest = omega (arith, reached-cons x xs n, reached-cons x xs m, one_later x n m later, rest behind)
+
+-- what holds of all numbers holds of one that is among them
+is_in-bound : (most : ℕ) (xs : List ℕ) (call : ℕ) → All (λ n. n < most) xs → is_in xs call ≡ true → call < most
+is_in-bound most [] call each there = let bad : false ≡ true = there in absurd cc
+is_in-bound most (x ∷ xs) call each there = at (x == call) refl there (λ behind. is_in-bound most xs call (All-tail (λ n. n < most) x xs each) behind)
+  where
+    at : (b : Bool) → (x == call) ≡ b → (b || is_in xs call) ≡ true → (is_in xs call ≡ true → call < most) → call < most
+    at true same there' rest = subst (λ y. y < most) (eqb-true x call same) (All-head (λ n. n < most) x xs each)
+    at false other behind rest = rest behind
+
+-- before the first call
+pub counted-opening : (numbers : List ℕ) → IsCounted numbers (plan_of numbers)
+counted-opening numbers = record { planned = refl; calls = omega arith; failed = omega arith }
+
+-- a call keeps it: a planned number is reached once
+pub counted-next : (numbers : List ℕ) (plan : FailurePlan) → All (λ n. n < 2 ^ 32) numbers → IsCounted numbers plan → IsCounted numbers (after_next plan)
+counted-next numbers plan range counted = at (fails_next plan) refl
+  where
+    fits : raised plan.calls ≤ 2 ^ 64 - 1
+    fits = omega arith
+
+    later : plan.calls ≤ raised plan.calls
+    later = omega (arith, counted.calls)
+
+    at : (b : Bool) → fails_next plan ≡ b → IsCounted numbers (after_call plan b)
+    at true fails =
+        let planned : is_in numbers (raised plan.calls) ≡ true =
+        sym (is_in-in_order numbers (raised plan.calls)) ∙ ap (λ xs. is_in xs (raised plan.calls)) (sym counted.planned) ∙ fails in
+        let few : raised plan.calls < 2 ^ 32 = is_in-bound (2 ^ 32) numbers (raised plan.calls) range planned in
+        let more : plan.calls < raised plan.calls = omega (arith, few) in
+        record {
+          planned = counted.planned;
+          calls = fits;
+          failed = omega (arith, counted.failed, reached-more plan.planned plan.calls (raised plan.calls) more fails);
+        }
+    at false done = record {
+      planned = counted.planned;
+      calls = fits;
+      failed = omega (arith, counted.failed, reached-later plan.planned plan.calls (raised plan.calls) later);
+    }
+
+-- at most as many calls failed as different numbers were planned
+pub counted-most : (numbers : List ℕ) (plan : FailurePlan) → IsCounted numbers plan → plan.faults ≤ distinct numbers
+counted-most numbers plan counted =
+    omega (arith, counted.failed, count_by-le-length (λ number. nat_le number plan.calls) plan.planned, ap (λ (xs : List ℕ). length xs) counted.planned)
+
+none-there : (xs : List ℕ) → ((call : ℕ) → is_in xs call ≡ false) → length xs ≡ 0
+none-there [] none = refl
+none-there (x ∷ xs) none = let bad : true ≡ false = sym (ap (λ b. b || is_in xs x) (nat_eq_equiv.refl x)) ∙ none x in absurd cc
+
+-- where nothing is planned there is no number
+pub distinct-none : (numbers : List ℕ) → numbers ≡ [] → distinct numbers ≡ 0
+distinct-none numbers none = none-there (in_order numbers) (λ call. is_in-in_order numbers call ∙ ap (λ xs. is_in xs call) none)
