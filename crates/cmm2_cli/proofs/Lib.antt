@@ -1,2 +1,3 @@
 pub mod Wrote
 mod FromGuest
+mod Inputs

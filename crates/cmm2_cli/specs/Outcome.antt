@@ -13,7 +13,7 @@ use Rattle.cmm_world.specs.Headline.{IsLegalRun}
 use Rattle.cmm2_cli.specs.declared.replay.TheConstants.{MAX_INPUT}
 use Rattle.cmm2_cli.specs.declared.refusal.Refusal.TheVariants.{Long, NotJson, Unbuilt}
 use Rattle.cmm2_cli.specs.declared.status.Status.{Status}
-use Rattle.cmm2_cli.specs.declared.status.Status.TheVariants.{Done, ScenarioRefused, WriteFault, NoMemory}
+use Rattle.cmm2_cli.specs.declared.status.Status.TheVariants.{Done, ScenarioRefused, ReadFault, WriteFault, NoMemory}
 use Rattle.cmm2_cli.specs.Refusal.{refusal_text, fault_text}
 use Rattle.cmm2_cli.specs.Reports.{reports_of}
 
@@ -43,7 +43,7 @@ module _ {K : Type 0} (faults : K → ℕ) (written : K → Option (List ℕ)) (
     pub same : new ≡ old
 
   -- the report is that of the run of the plan: the answers to its events, and of each guest the journal, the discards and the faults. Each
-  -- journal is legal, and no step of the run discards a page that its guest needs
+  -- journal is legal, no step of the run discards a page that its guest needs, and no more commands fail than calls are planned to
   pub record Plays (plan : Scenario) (result : Status) : Type 0 where
     pub report : Answers (report_of false (run_of plan).0 (reports_of (run_of plan).1)) Done result
     pub run : IsLegalRun plan
@@ -68,3 +68,7 @@ module _ {K : Type 0} (faults : K → ℕ) (written : K → Option (List ℕ)) (
       ((MAX_INPUT < length bytes) × Answers (refusal_text Long) ScenarioRefused result)
       ⊎ ((length bytes ≤ MAX_INPUT) × AnswersBytes bytes result)
       ⊎ WroteNothing NoMemory result
+
+  -- a read failed, or this is the answer to some input
+  abbrev pub AnswersSome : Status → Type 0
+  AnswersSome result = (result ≡ ReadFault) ⊎ ((bytes : List ℕ) × AnswersInput bytes result)

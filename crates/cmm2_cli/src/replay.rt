@@ -6,7 +6,7 @@ ghost use Rattle.cmm_io.specs.SourceBytes.{IsAtEnd};
 ghost use Rattle.cmm_report.specs.Report.{report_of};
 ghost use Rattle.cmm2_cli.specs.Reports.{reports_of};
 ghost use Rattle.cmm2_cli.specs.Refusal.{refusal_text, refusal_status, fault_text};
-ghost use Rattle.cmm2_cli.specs.Outcome.{IsReplay, Answers, WroteNothing, Plays, AnswersPlan, AnswersBytes, AnswersInput};
+ghost use Rattle.cmm2_cli.specs.Outcome.{IsReplay, Answers, WroteNothing, Plays, AnswersPlan, AnswersBytes, AnswersInput, AnswersSome};
 
 use crate::fault::write_fault;
 use crate::refusal::{Refusal, kind_end};
@@ -123,6 +123,9 @@ pub fn cmm2_replay<S: Source, K: Sink>(
     ensures answer { IsReplay (map string_bytes words.now) → IfSome (S.rest src.old) (λ bytes.
         (result ≡ Status.ReadFault) ⊎ AnswersInput K.faults K.written out.old out.new bytes result) }
     ensures read_whole { result ≡ Status.Done → IsAtEnd (S.rest src.new) }
+
+    // Also where the source doesn't tell its bytes, the answer is one to some input.
+    ensures some_input { IsReplay (map string_bytes words.now) → AnswersSome K.faults K.written out.old out.new result }
 {
     if !is_replay(words) {
         return refuse(out, Refusal::Words);

@@ -7,7 +7,7 @@ use Rattle.std.proofs.lemmas.List.Sums.{sum_by_more}
 use Rattle.essa_state.specs.declared.fields.Fields.{Fields}
 use Rattle.host_plain.specs.MemoryState.{opening_word}
 use Rattle.host_plain.specs.HostState.{start_of, pages_of}
-use Rattle.guest_rules.specs.Fit.{over_pages}
+use Rattle.guest_rules.specs.Fit.{sum_below}
 use Rattle.cmm_world.specs.WorldState.{WorldState, WorldFit, guest_at}
 use Rattle.cmm_world.specs.WorldView.{discards_of}
 
@@ -15,11 +15,11 @@ taken_past : {X : Type 0} (xs : List X) (n : ℕ) → length xs ≤ n → take (
 taken_past xs n past = take_all (n + 1) xs (omega (arith, past)) ∙ sym (take_all n xs past)
 
 -- the words from a place on, and those past the end counted as fresh ones
-over_pages-words : (words : List Fields) (start count : ℕ)
-    → over_pages (λ page. (slice_index_or words (start + page) opening_word).count) count ≡ sum_by (λ word. word.count) (take count (drop start words))
-over_pages-words words start zero = refl
-over_pages-words words start (suc count) =
-    let before = over_pages-words words start count in
+sum_below-words : (words : List Fields) (start count : ℕ)
+    → sum_below (λ page. (slice_index_or words (start + page) opening_word).count) count ≡ sum_by (λ word. word.count) (take count (drop start words))
+sum_below-words words start zero = refl
+sum_below-words words start (suc count) =
+    let before = sum_below-words words start count in
     let next : suc count ≡ count + 1 = omega arith in
     let taken : sum_by (λ word. word.count) (take (suc count) (drop start words)) ≡ sum_by (λ word. word.count) (take (count + 1) (drop start words)) = ap (λ n. sum_by (λ word. word.count) (take n (drop start words))) next in
     elim (cases_lt count (length (drop start words))) [
@@ -36,4 +36,4 @@ over_pages-words words start (suc count) =
 
 -- a guest's handled faults are at most the discards of its pages
 pub faults_few : (w : WorldState) (guest : ℕ) → WorldFit w → guest < length w.guests → (guest_at w guest).parts.faults ≤ discards_of w guest
-faults_few w guest fit below = omega (arith, (fit guest below).faults, over_pages-words w.host.memory.words (start_of w.host guest) (pages_of w.host guest))
+faults_few w guest fit below = omega (arith, (fit guest below).faults, sum_below-words w.host.memory.words (start_of w.host guest) (pages_of w.host guest))

@@ -1,18 +1,19 @@
 -- What an event keeps of the worlds in which every guest fits.
 use Rattle.std.specs.Prelude.{◌≡◌, ◌≢◌, ◌<◌, ℕ, ◌+◌, ◌-◌, [], length, slice_set, slice_index_or, None}
-use Rattle.std.proofs.Common.{refl, sym, ap, inl, inr, ◌∙◌, length-set, get_or-set_other, get_or-set_same}
+use Rattle.std.proofs.Common.{refl, sym, ap, subst, inl, inr, ◌∙◌, length-set, get_or-set_other, get_or-set_same}
 use Rattle.std.proofs.lemmas.Bool.{cases_eq}
 use Rattle.cmm_io.specs.DiskState.{DiskState, disk_view, opened}
 use Rattle.cmm_io.specs.DiskView.{DiskView}
 use Rattle.essa_state.specs.PageValue.{MayBecome}
 use Rattle.essa_state.specs.PageValueLaws.{MayBecome-trans}
-use Rattle.host_plain.specs.HostState.{HostState, Leaves, HostMayMake, start_of, pages_of, pager_of, value_of, served, host_view}
+use Rattle.host_plain.specs.HostState.{HostState, Leaves, HostMayMake, start_of, pages_of, pager_of, no_pager, value_of, served, host_view}
 use Rattle.guest_rules.specs.GuestState.{GuestState, opening_guest}
 use Rattle.guest_rules.specs.Fit.{Fit}
 use Rattle.host_plain.proofs.Others.{places-apart}
 use Rattle.guest_rules.proofs.TurnCases.{AllMay}
 use Rattle.guest_rules.proofs.FitMay.{FitAt-may}
-use Rattle.cmm_world.specs.WorldState.{WorldState, no_plan}
+use Rattle.cmm_world.specs.WorldState.{WorldState, guest_at, disk_at, no_plan}
+use Rattle.cmm_world.specs.Failures.{AreCounted, WorldCounted}
 use Rattle.cmm_world.specs.WorldView.{IsWorld}
 
 -- what a guest's calls keep of the host: other guests' pages go as the host may change them
@@ -100,8 +101,9 @@ others_may h k d guest keeps below other held held' = record {
 
 -- a guest took its turn
 pub kept_turn : (w : WorldState) (guest : ℕ) (g : GuestState) (k : HostState) (e : DiskState) → IsWorld w → guest < length w.guests → KeepsOthers (served w.host guest) k → k.held ≡ None
-    → Fit g (host_view k) (disk_view e) → IsWorld (record { guests = slice_set w.guests guest g; disks = slice_set w.disks guest e; host = k })
-kept_turn w guest g k e world below keeps held fit = record {
+    → Fit g (host_view k) (disk_view e) → WorldCounted (record { guests = slice_set w.guests guest g; disks = slice_set w.disks guest e; host = k })
+    → IsWorld (record { guests = slice_set w.guests guest g; disks = slice_set w.disks guest e; host = k })
+kept_turn w guest g k e world below keeps held fit failures = record {
   few = rw (length-set w.guests guest g) world.few;
   disks = length-set w.disks guest e ∙ world.disks ∙ sym (length-set w.guests guest g);
   pagers = keeps.count ∙ world.pagers ∙ sym (length-set w.guests guest g);
@@ -111,6 +113,7 @@ kept_turn w guest g k e world below keeps held fit = record {
     | inr other ↦ rw (get_or-set_other w.guests guest i g no_guest other, get_or-set_other w.disks guest i e no_disk other)
         (FitAt-may _ _ _ _ _ _ (world.fit i (rw length-set at lt)) (others_may (served w.host guest) k _ i keeps (rw world.pagers (rw length-set at lt)) other world.none_held held))
   ];
+  failures = failures;
 }
   where
     no_guest : GuestState
@@ -130,4 +133,5 @@ kept_moves w k world keeps = record {
   pagers = ap length keeps.pagers ∙ world.pagers;
   none_held = keeps.held ∙ world.none_held;
   fit = λ i lt. FitAt-may _ _ _ _ _ _ (world.fit i lt) (all_may w.host k _ i keeps (rw world.pagers lt) world.none_held);
+  failures = λ i lt. subst (λ pagers. AreCounted (guest_at w i) (disk_at w i) (slice_index_or pagers i no_pager)) (sym keeps.pagers) (world.failures i lt);
 }

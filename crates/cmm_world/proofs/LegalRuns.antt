@@ -1,14 +1,22 @@
 -- A world that played a plan's schedule shows that the plan's run is legal.
-use Rattle.std.specs.Prelude.{◌≡◌, List, [], ◌∷◌, length, map}
-use Rattle.std.proofs.Common.{refl, sym, ap, ◌∙◌}
+use Rattle.std.specs.Prelude.{◌≡◌, ◌≤◌, List, [], ◌∷◌, length, map}
+use Rattle.std.proofs.Common.{refl, sym, ap, arith, ◌∙◌}
 use Rattle.std.proofs.lemmas.List.{length-map}
 use Rattle.cmm_types.specs.declared.plan.GuestPlan.{GuestPlan}
 use Rattle.cmm_types.specs.declared.plan.Scenario.{Scenario}
+use Rattle.cmm_io.specs.FailurePlan.{FailurePlan}
+use Rattle.cmm_io.specs.DiskState.{DiskState}
+use Rattle.cmm_io.specs.Counted.{distinct}
+use Rattle.cmm_io.proofs.Counted.{counted-most, distinct-none}
+use Rattle.cmm_flat.specs.Legal.{Legal, start_of}
 use Rattle.guest_rules.specs.GuestState.{GuestState, opening_guest}
+use Rattle.guest_rules.specs.Failures.{disk_failures, paging_failures}
+use Rattle.guest_rules.proofs.FailuresKept.{flat_replies}
 use Rattle.cmm_world.specs.WorldState.{WorldFit, opening_world}
 use Rattle.cmm_world.specs.WorldView.{plans_of}
+use Rattle.cmm_world.specs.Failures.{AreCounted, WorldCounted}
 use Rattle.cmm_world.specs.Run.{run_of}
-use Rattle.cmm_world.specs.Headline.{IsLegalRun, NoStepDiscardsWrongly}
+use Rattle.cmm_world.specs.Headline.{FailsAsPlanned, IsLegalRun, NoStepDiscardsWrongly}
 use Rattle.cmm_world.proofs.Discards.{faults_few}
 
 opening_plans : (guests : List GuestPlan) → map (λ (g : GuestState). g.plan) (map opening_guest guests) ≡ guests
@@ -20,10 +28,26 @@ pub plans_opening : (plan : Scenario) → plans_of (opening_world plan) ≡ plan
 unfolding opening_world
 plans_opening plan = opening_plans plan.guests
 
--- the world after the schedule has the plans, and in it every guest fits
-pub legal_run : (plan : Scenario) → plans_of (run_of plan).1 ≡ plans_of (opening_world plan) → WorldFit (run_of plan).1 → NoStepDiscardsWrongly (opening_world plan) plan.schedule → IsLegalRun plan
+-- no more commands failed than calls, and no more calls than were planned to
+fails_as_planned : (g : GuestState) (d : DiskState) (pager : FailurePlan) → Legal g.plan g.journal → AreCounted g d pager → FailsAsPlanned g
+fails_as_planned g d pager legal counted = record {
+  by_disk = by_disk;
+  by_pager = by_pager;
+  flat = λ none_disk none_pager.
+      flat_replies g.plan (start_of g.plan) g.journal legal (omega (arith, by_disk, distinct-none g.plan.disk_fail none_disk)) (omega (arith, by_pager, distinct-none g.plan.pager_fail none_pager));
+}
+  where
+    by_disk : disk_failures g.journal ≤ distinct g.plan.disk_fail
+    by_disk = omega (arith, counted.by_disk, counted-most g.plan.disk_fail d.failures counted.disk_calls)
+
+    by_pager : paging_failures g.journal ≤ distinct g.plan.pager_fail
+    by_pager = omega (arith, counted.by_pager, counted-most g.plan.pager_fail pager counted.pager_calls)
+
+-- the world after the schedule has the plans, in it every guest fits, and no more commands failed than calls
+pub legal_run : (plan : Scenario) → plans_of (run_of plan).1 ≡ plans_of (opening_world plan) → WorldFit (run_of plan).1 → WorldCounted (run_of plan).1
+    → NoStepDiscardsWrongly (opening_world plan) plan.schedule → IsLegalRun plan
 unfolding opening_world
-legal_run plan plans fit discards =
+legal_run plan plans fit failures discards =
     let all : plans_of (run_of plan).1 ≡ plan.guests = plans ∙ opening_plans plan.guests in
     let count : length (run_of plan).1.guests ≡ length plan.guests = sym (length-map (run_of plan).1.guests (λ g. g.plan)) ∙ ap length all in
     record {
@@ -31,4 +55,5 @@ legal_run plan plans fit discards =
       legal = λ guest below. (fit guest (rw count below)).journal.legal;
       discards = discards;
       faults = λ guest below. faults_few (run_of plan).1 guest fit (rw count below);
+      failures = λ guest below. fails_as_planned _ _ _ (fit guest (rw count below)).journal.legal (failures guest (rw count below));
     }

@@ -1,6 +1,7 @@
 pub mod ExecRuns
 pub mod Carried
 pub mod Kept
+pub mod Failures
 pub mod Discards
 pub mod Unbound
 pub mod TurnRuns

@@ -6,10 +6,12 @@ use Rattle.cmm_types.specs.declared.plan.GuestPlan.{GuestPlan}
 use Rattle.cmm_types.specs.declared.plan.Scenario.{Scenario}
 use Rattle.cmm_types.specs.InRange.{ScenarioInRange, GuestInRange}
 use Rattle.cmm_io.specs.DiskState.{DiskState, disk_view}
+use Rattle.cmm_io.specs.FailurePlan.{plan_of}
 use Rattle.cmm_io.proofs.DiskBlocks.{length-disk_of}
+use Rattle.cmm_io.proofs.Counted.{counted-opening}
 use Rattle.essa_state.specs.PageBody.{actual}
 use Rattle.host_plain.specs.MemoryState.{opening_word, body_at, word_at}
-use Rattle.host_plain.specs.HostState.{HostState, pages_of, place_of, served, host_view}
+use Rattle.host_plain.specs.HostState.{HostState, pages_of, pager_of, no_pager, place_of, served, host_view}
 use Rattle.host_plain.proofs.Opening.{opening_word-at}
 use Rattle.host_plain.proofs.Starts.{start-at, next_start}
 use Rattle.guest_rules.specs.GuestState.{GuestState, opening_guest}
@@ -19,6 +21,7 @@ use Rattle.guest_rules.specs.Fit.{Fit}
 use Rattle.guest_rules.proofs.Opening.{Fit-opening}
 use Rattle.cmm_world.specs.WorldState.{WorldState, guest_at, disk_at, no_plan, opening_disk, opening_host, opening_world}
 use Rattle.cmm_world.specs.WorldView.{IsWorld}
+use Rattle.cmm_world.specs.Failures.{AreCounted}
 use Rattle.cmm_world.specs.Built.{IsBuilt}
 
 abbrev plan_at : Scenario → ℕ → GuestPlan
@@ -52,6 +55,9 @@ fits_at plan guest below range built =
       blocks = refl;
     })
 
+counted_at : (plan : GuestPlan) → AreCounted (opening_guest plan) (opening_disk plan) (plan_of plan.pager_fail)
+counted_at plan = record { by_disk = omega arith; by_pager = omega arith; disk_calls = counted-opening plan.disk_fail; pager_calls = counted-opening plan.pager_fail }
+
 pub opening_fits : (plan : Scenario) → ScenarioInRange plan → IsBuilt plan → IsWorld (opening_world plan)
 unfolding opening_world
 opening_fits plan range built = record {
@@ -64,6 +70,12 @@ opening_fits plan range built = record {
       let its : guest_at (opening_world plan) guest ≡ opening_guest (plan_at plan guest) = get_or-map opening_guest plan.guests guest no_plan (opening_guest no_plan) below in
       let disk : disk_at (opening_world plan) guest ≡ opening_disk (plan_at plan guest) = get_or-map opening_disk plan.guests guest no_plan (opening_disk no_plan) below in
       rw (its, disk) (fits_at plan guest below (range.guests.each guest no_plan below) (built guest no_plan below));
+  failures = λ guest lt.
+      let below : guest < length plan.guests = rw length-map at lt in
+      let its : guest_at (opening_world plan) guest ≡ opening_guest (plan_at plan guest) = get_or-map opening_guest plan.guests guest no_plan (opening_guest no_plan) below in
+      let disk : disk_at (opening_world plan) guest ≡ opening_disk (plan_at plan guest) = get_or-map opening_disk plan.guests guest no_plan (opening_disk no_plan) below in
+      let pager : pager_of (opening_host plan) guest ≡ plan_of (plan_at plan guest).pager_fail = get_or-map (λ (g : GuestPlan). plan_of g.pager_fail) plan.guests guest no_plan no_pager below in
+      rw (its, disk, pager) (counted_at (plan_at plan guest));
 }
 
 -- a world of opened parts is the one before its first event

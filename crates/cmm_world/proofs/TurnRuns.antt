@@ -23,6 +23,7 @@ use Rattle.guest_rules.specs.Alone.{alone, alone_within, alone_after, most_turns
 use Rattle.guest_rules.specs.Fit.{Fit}
 use Rattle.guest_rules.specs.Cause.{NoWrongDiscard}
 use Rattle.guest_rules.proofs.TurnLaws.{Fit-turn, Discards-turn, plan-turn}
+use Rattle.guest_rules.proofs.FailuresKept.{Failures-turn, Failures-alone}
 use Rattle.cmm_world.specs.WorldState.{WorldState, guest_at, disk_at, view_of, no_plan}
 use Rattle.cmm_world.specs.WorldView.{IsWorld, NoWrongDiscards}
 use Rattle.cmm_world.specs.Run.{world_step, turned}
@@ -30,6 +31,7 @@ use Rattle.cmm_world.specs.Headline.{TurnsDiscard}
 use Rattle.cmm_world.proofs.ExecRuns.{does_exec}
 use Rattle.cmm_world.proofs.Carried.{carried}
 use Rattle.cmm_world.proofs.Unbound.{halfway}
+use Rattle.cmm_world.proofs.Failures.{plans_kept, failures_fit, counted_turn}
 use Rattle.cmm_world.proofs.Kept.{KeepsOthers, KeepsOthers-same, KeepsOthers-trans, MovesKeep, all_may, others_may, kept_turn}
 
 -- the world after a guest's turns
@@ -92,11 +94,14 @@ module _ {S D : Type 0} (ss : S → StorageCall → S → Type 0) (ds : D → Di
       let kept : KeepsOthers (served w.host guest) (sv t) = subst (λ q. KeepsOthers q (sv t)) is_host (keeps (guest_at w guest) cpu s d h r t e run) in
       let fit' = Fit-turn (guest_at w guest) cpu _ _ h r _ _ fit has_cpu ran in
       let own = subst (λ (q : HostState). NoWrongDiscard (host_view q) (host_view (sv t))) is_host (Discards-turn (guest_at w guest) cpu _ _ h r _ _ fit has_cpu ran) in
+      let plan = plan-turn (guest_at w guest) cpu _ _ h r _ _ fit has_cpu ran in
+      let failures = Failures-turn (guest_at w guest) cpu _ _ h r _ _ fit has_cpu ran (rw (is_host, is_disk) (failures_fit w guest world below)) in
+      let plans = plans_kept ss ds sv dv sm dm (turn (guest_at w guest) cpu) w guest s d (h, r) t e world below is_host is_disk run in
       record {
         step = ap (turned TurnAnswer w guest) (does_exec ss ds sv dv sm dm (turn (guest_at w guest) cpu) s d (h, r) t e run ∙ rw (is_host, is_disk) refl);
-        world = kept_turn w guest h (sv t) (dv e) world below kept fit'.hints.none_held fit';
+        world = kept_turn w guest h (sv t) (dv e) world below kept fit'.hints.none_held fit' (counted_turn w guest h (sv t) (dv e) world below kept plan failures plans);
         discards = discards_turn w guest h (sv t) (dv e) world kept fit'.hints.none_held own;
-        plan = plan-turn (guest_at w guest) cpu _ _ h r _ _ fit has_cpu ran;
+        plan = plan;
         serves = kept.serves;
       }
 
@@ -127,16 +132,20 @@ module _ {S D : Type 0} (ss : S → StorageCall → S → Type 0) (ds : D → Di
       )
 
   pub after_alone : (w : WorldState) (guest cpu : ℕ) (s : S) (d : D) (h : GuestState) (a : AloneOutcome) (t : S) (e : D) → IsWorld w → guest < length w.guests
-      → sv s ≡ served w.host guest → dv d ≡ disk_at w guest → cpu < length (guest_at w guest).processors → Fit h (host_view (sv t)) (disk_view (dv e))
+      → sv s ≡ served w.host guest → dv d ≡ disk_at w guest → cpu < length (guest_at w guest).processors → Fit h (host_view (sv t)) (disk_view (dv e)) → h.plan ≡ (guest_at w guest).plan
       → Does ss ds (alone (guest_at w guest) cpu) s d (h, a) t e → AfterAlone w guest cpu h a (sv t) (dv e)
   unfolding world_step
-  after_alone w guest cpu s d h a t e world below is_host is_disk has_cpu fit' run =
+  after_alone w guest cpu s d h a t e world below is_host is_disk has_cpu fit' plan run =
       let kept : KeepsOthers (served w.host guest) (sv t) =
       subst (λ q. KeepsOthers q (sv t)) is_host
       (carried ss ds (λ s t. KeepsOthers (sv s) (sv t)) (λ s t same. KeepsOthers-same (sv s) (sv t) (ap sv same)) (λ s m t. KeepsOthers-trans (sv s) (sv m) (sv t)) sk (alone (guest_at w guest) cpu) s d (h, a) t e run) in
+      let fit : Fit (guest_at w guest) (host_view (sv s)) (disk_view (dv d)) = rw (is_host, is_disk) (world.fit guest below) in
+      let ran = does_seen ss ds (λ q. host_view (sv q)) (λ q. disk_view (dv q)) sf df (alone (guest_at w guest) cpu) s d (h, a) t e run in
+      let failures = Failures-alone (guest_at w guest) cpu _ _ h a _ _ refl fit has_cpu ran (rw (is_host, is_disk) (failures_fit w guest world below)) in
+      let plans = plans_kept ss ds sv dv sm dm (alone (guest_at w guest) cpu) w guest s d (h, a) t e world below is_host is_disk run in
       record {
         step = ap (turned AloneAnswer w guest) (does_exec ss ds sv dv sm dm (alone (guest_at w guest) cpu) s d (h, a) t e run ∙ rw (is_host, is_disk) refl);
-        world = kept_turn w guest h (sv t) (dv e) world below kept fit'.hints.none_held fit';
+        world = kept_turn w guest h (sv t) (dv e) world below kept fit'.hints.none_held fit' (counted_turn w guest h (sv t) (dv e) world below kept plan failures plans);
         discards = turns_discard most_turns 0 w guest cpu s d h a t e world below is_host is_disk has_cpu run;
       }
 

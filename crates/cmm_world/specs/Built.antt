@@ -3,6 +3,6 @@ use Rattle.std.specs.Prelude.{All}
 use Rattle.cmm_types.specs.declared.plan.Scenario.{Scenario}
 use Rattle.guest_rules.specs.Built.{GuestIsBuilt}
 
--- each guest reads, and its files fit its pages
+-- every guest can be played
 abbrev pub IsBuilt : Scenario → Type 0
 IsBuilt plan = All GuestIsBuilt plan.guests

@@ -8,6 +8,7 @@ use Rattle.essa_state.specs.declared.fields.Fields.{Fields}
 use Rattle.host_plain.specs.HostState.{words_of}
 use Rattle.guest_rules.specs.Cause.{NoWrongDiscard}
 use Rattle.cmm_world.specs.WorldState.{WorldState, WorldFit, view_of, opening_world}
+use Rattle.cmm_world.specs.Failures.{WorldCounted}
 
 -- the state, the answers kept so far, and how many there is room for: one for each event of the schedule
 pub record WorldView : Type 0 where
@@ -36,6 +37,7 @@ pub record IsWorld (w : WorldState) : Type 0 where
   pub pagers : length w.host.pagers ≡ length w.guests
   pub none_held : w.host.held ≡ None
   pub fit : WorldFit w
+  pub failures : WorldCounted w
 
 -- the words of a guest's pages
 abbrev pub words_in : WorldState → ℕ → List Fields

@@ -10,7 +10,14 @@ fn is_built_op(op: &Op) -> bool
 {
     matches!(
         op,
-        Op::Read { .. } | Op::MapFile { .. } | Op::Load { .. } | Op::Store { .. }
+        Op::Read { .. }
+            | Op::Write { .. }
+            | Op::Sync { .. }
+            | Op::MapFile { .. }
+            | Op::Load { .. }
+            | Op::Store { .. }
+            | Op::Pin { .. }
+            | Op::Unpin { .. }
     )
 }
 

@@ -6,6 +6,7 @@ ghost use Rattle.cmm_types.specs.InRange.{EventInRange, ScenarioInRange};
 ghost use Rattle.cmm_world.specs.Built.{IsBuilt};
 ghost use Rattle.cmm_world.specs.WorldState.{WorldState, WorldFit, guest_at, disk_at};
 ghost use Rattle.cmm_world.specs.WorldView.{WorldView, opening_view, plans_of, words_in};
+ghost use Rattle.cmm_world.specs.Failures.{WorldCounted};
 ghost use Rattle.cmm_world.specs.Run.{world_step, move_answer, answers_of, world_after};
 ghost use Rattle.cmm_world.specs.Headline.{EventDiscards, NoStepDiscardsWrongly};
 
@@ -80,6 +81,7 @@ impl World {
         ensures state { self.new.state ≡ world_after self.old.state events.now }
         ensures plans { plans_of self.new.state ≡ plans_of self.old.state }
         ensures fit { WorldFit self.new.state }
+        ensures failures { WorldCounted self.new.state }
         ensures discards { NoStepDiscardsWrongly self.old.state events.now }
         ensures room { self.new.events ≡ self.old.events }
     {
@@ -99,6 +101,9 @@ impl World {
 
         // Each guest fits its pages and its disk, whatever the order of events.
         ensures fit { WorldFit self.new.state }
+
+        // No more commands failed than calls, and no more calls than were planned to.
+        ensures failures { WorldCounted self.new.state }
 
         // A page becomes discarded only where it was volatile, or potentially volatile and unchanged.
         ensures discards { EventDiscards self.old.state event.now }
@@ -121,7 +126,8 @@ impl World {
 
     // What the type keeps, as a fact: nothing is done.
     fn fits(&self)
-        ensures { WorldFit self.now.state }
+        ensures fit { WorldFit self.now.state }
+        ensures failures { WorldCounted self.now.state }
     {
         let _ = self.guests.len();
     }
@@ -130,6 +136,7 @@ impl World {
         requires range { EventInRange (plans_of self.old.state) (Cpu guest cpu) }
         ensures step { (TurnAnswer result, self.new.state) ≡ world_step self.old.state (Cpu guest cpu) }
         ensures fit { WorldFit self.new.state }
+        ensures failures { WorldCounted self.new.state }
         ensures discards { EventDiscards self.old.state (Cpu guest cpu) }
         ensures plans { plans_of self.new.state ≡ plans_of self.old.state }
         ensures answers { self.new.answers ≡ self.old.answers }
@@ -143,6 +150,7 @@ impl World {
         requires range { EventInRange (plans_of self.old.state) (AloneEvent guest cpu) }
         ensures step { (AloneAnswer result, self.new.state) ≡ world_step self.old.state (AloneEvent guest cpu) }
         ensures fit { WorldFit self.new.state }
+        ensures failures { WorldCounted self.new.state }
         ensures discards { EventDiscards self.old.state (AloneEvent guest cpu) }
         ensures plans { plans_of self.new.state ≡ plans_of self.old.state }
         ensures answers { self.new.answers ≡ self.old.answers }
@@ -156,6 +164,7 @@ impl World {
         requires range { EventInRange (plans_of self.old.state) (HostEvent guest page action) }
         ensures step { (result, self.new.state) ≡ world_step self.old.state (HostEvent guest page action) }
         ensures fit { WorldFit self.new.state }
+        ensures failures { WorldCounted self.new.state }
         ensures discards { EventDiscards self.old.state (HostEvent guest page action) }
         ensures plans { plans_of self.new.state ≡ plans_of self.old.state }
         ensures answers { self.new.answers ≡ self.old.answers }
@@ -167,6 +176,7 @@ impl World {
     fn reclaim(&mut self, count: u32) -> Answer
         ensures step { (result, self.new.state) ≡ world_step self.old.state (Reclaim count) }
         ensures fit { WorldFit self.new.state }
+        ensures failures { WorldCounted self.new.state }
         ensures discards { EventDiscards self.old.state (Reclaim count) }
         ensures plans { plans_of self.new.state ≡ plans_of self.old.state }
         ensures answers { self.new.answers ≡ self.old.answers }

@@ -1,5 +1,6 @@
 -- The runs of a processor's turns, one turn after another.
-use Rattle.std.proofs.Common.{◌≡◌, ◌<◌, ◌≤◌, ◌+◌, ◌-◌, ℕ, suc, length, refl, ap, sym, subst, ◌∙◌, arith}
+use Rattle.std.proofs.Common.{◌≡◌, ◌<◌, ◌≤◌, ◌+◌, ◌-◌, ◌*◌, ℕ, suc, length, refl, ap, sym, subst, ◌∙◌, arith}
+use Rattle.cmm_types.specs.declared.plan.TheConstants.{MAX_FILE_PAGES}
 use Rattle.cmm_types.specs.declared.turn.Turn.{Turn}
 use Rattle.cmm_types.specs.declared.turn.Turn.TheVariants.{Moved}
 use Rattle.cmm_types.specs.declared.turn.Alone.{Alone}
@@ -12,8 +13,17 @@ use Rattle.cmm_storage.specs.Program.{Program, done, Does}
 use Rattle.cmm_storage.specs.Runs.{does_bind}
 use Rattle.guest_rules.specs.GuestState.{GuestState}
 use Rattle.guest_rules.specs.Turns.{turn}
-use Rattle.guest_rules.specs.Alone.{most_turns, alone_after, alone_within}
+use Rattle.guest_rules.specs.Alone.{most_turns, alone, alone_after, alone_within}
 use Rattle.guest_rules.specs.Fit.{Fit}
+
+-- the code counts as many turns
+pub turns-below : (turns : ℕ) → turns < 12 + 3 * MAX_FILE_PAGES → turns < most_turns
+unfolding most_turns
+turns-below turns h = omega (arith, h)
+
+pub turns-past : (turns : ℕ) → 12 + 3 * MAX_FILE_PAGES ≤ turns → most_turns ≤ turns
+unfolding most_turns
+turns-past turns h = omega (arith, h)
 
 -- what follows a turn
 abbrev pub follows_turn : ℕ → ℕ → ℕ → GuestState → Turn → Program (GuestState × Alone)
@@ -24,6 +34,12 @@ module _ {S D : Type 0} (ss : S → StorageCall → S → Type 0) (ds : D → Di
       → Does ss ds (turn g cpu) s d (h, t) m e → Does ss ds (follows_turn left turns cpu h t) m e b s' d' → Does ss ds (alone_within (suc left) turns g cpu) s d b s' d'
   one_turn left turns cpu g h t s m s' d e d' b run next =
       does_bind ss ds (turn g cpu) (λ went. follows_turn left turns cpu went.0 went.1) s d (h, t) m e b s' d' run next
+
+  -- before the first turn all of them are left
+  pub begins : (cpu : ℕ) (g : GuestState) (s s' : S) (d d' : D) (b : GuestState × Alone) → Does ss ds (alone_within (most_turns - 0) 0 g cpu) s d b s' d' → Does ss ds (alone g cpu) s d b s' d'
+  begins cpu g s s' d d' b run =
+      let left : most_turns - 0 ≡ most_turns = omega arith in
+      subst (λ n. Does ss ds (alone_within n 0 g cpu) s d b s' d') left run
 
   -- a turn that moved, and the turns after it
   pub moved_on : (turns cpu : ℕ) (g h : GuestState) (t : Turn) (s m s' : S) (d e d' : D) (b : GuestState × Alone)

@@ -17,7 +17,7 @@ use Rattle.guest_maps.specs.MapsView.{entry_at}
 use Rattle.guest_rules.specs.Hint.{can_be_fetched_again, hint}
 use Rattle.guest_rules.specs.GuestState.{GuestState}
 use Rattle.guest_rules.specs.Fit.{Fit}
-use Rattle.guest_rules.proofs.TurnCases.{HasPage, Maps}
+use Rattle.guest_rules.proofs.TurnCases.{ShowsPage, Maps}
 use Rattle.guest_rules.proofs.ValueLaws.{hint-tagged}
 use Rattle.guest_rules.proofs.EntryLaws.{some_writer}
 use Rattle.guest_rules.proofs.Reached.{entry_page}
@@ -27,7 +27,7 @@ use Rattle.guest_core.specs.Between.{Hits}
 pub hit-usable : (g : GuestState) (v : StorageView) (d : DiskView) (cpu : ℕ) (op : Op) (page : ℕ) → Fit g v d → Hits g cpu op page → CanBeUsed g v page
 hit-usable g v d cpu op page f hits = entry-usable g v d cpu op hits.writes hits.slot hits.off (record { page = page; writable = hits.writable }) f hits.reaches hits.entry
 
-hit-page : (g : GuestState) (v : StorageView) (d : DiskView) (cpu : ℕ) (op : Op) (page : ℕ) → Fit g v d → (hits : Hits g cpu op page) → HasPage g hits.reaches.tag page
+hit-page : (g : GuestState) (v : StorageView) (d : DiskView) (cpu : ℕ) (op : Op) (page : ℕ) → Fit g v d → (hits : Hits g cpu op page) → ShowsPage g hits.reaches.tag page
 hit-page g v d cpu op page f hits = entry_page (flat_of g.plan g.journal) g v d cpu op hits.writes hits.slot hits.off (record { page = page; writable = hits.writable }) f hits.reaches hits.entry
 
 -- the usage of a page that has a tag

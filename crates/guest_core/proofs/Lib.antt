@@ -4,3 +4,4 @@ mod Ready
 mod Opened
 mod OtherTurns
 mod AloneRuns
+mod Syncs

@@ -4,14 +4,14 @@ use Rattle.cmm_types.specs.declared.page.TheConstants.{PAGE}
 use Rattle.cmm_types.specs.declared.page.Tag.{Tag}
 use Rattle.cmm_types.specs.declared.page.Tag.TheVariants.{File}
 use Rattle.cmm_types.specs.declared.command.Op.{Op}
-use Rattle.cmm_types.specs.declared.command.Op.TheVariants.{Read, MapFile, Load, Store}
+use Rattle.cmm_types.specs.declared.command.Op.TheVariants.{Read, Write, MapFile, Load, Store, Pin, Unpin, Sync}
 use Rattle.cmm_types.specs.declared.command.FlatRefusal.TheVariants.{AlreadyMapped}
 use Rattle.cmm_flat.specs.Legal.{process_of}
 use Rattle.guest_maps.specs.declared.slot.Pte.{Pte}
 use Rattle.guest_maps.specs.declared.slot.Shown.TheVariants.{File as OfFile}
 use Rattle.guest_maps.specs.MapsView.{find_slot, free_slot, tag_at}
 use Rattle.guest_rules.specs.GuestState.{GuestState}
-use Rattle.guest_rules.specs.Turns.{refusal_of_new, resolve_turn, use_turn, hit_turn, start_tagged, start_at, start_entry, start_mapped, map_turn, start_accepted}
+use Rattle.guest_rules.specs.Turns.{refusal_of_new, resolve_turn, pin_turn, use_turn, hit_turn, start_tagged, start_at, start_entry, start_mapped, start_placed, map_turn, start_accepted, sync_turn}
 use Rattle.guest_core.specs.Between.{serving}
 
 pub use-load : (g : GuestState) (cpu : ℕ) (op : Op) (page number off len : ℕ) → op ≡ Load number off len → use_turn g cpu op page ≡ resolve_turn g cpu page number off false
@@ -22,8 +22,19 @@ pub use-store : (g : GuestState) (cpu : ℕ) (op : Op) (page number off : ℕ) (
 unfolding use_turn
 use-store g cpu op page number off bytes is = ap (λ q. use_turn g cpu q page) is
 
+pub use-pin : (g : GuestState) (cpu : ℕ) (op : Op) (page number index : ℕ) → op ≡ Pin number index → use_turn g cpu op page ≡ pin_turn g cpu op page number index true
+unfolding use_turn
+use-pin g cpu op page number index is = rw is refl
+
+pub use-unpin : (g : GuestState) (cpu : ℕ) (op : Op) (page number index : ℕ) → op ≡ Unpin number index → use_turn g cpu op page ≡ pin_turn g cpu op page number index false
+unfolding use_turn
+use-unpin g cpu op page number index is = rw is refl
+
 pub accepted-read : (g : GuestState) (cpu : ℕ) (op : Op) (file off len : ℕ) → op ≡ Read file off len → start_accepted g cpu op ≡ start_tagged g cpu op (File file (off / PAGE))
 accepted-read g cpu op file off len is = rw is refl
+
+pub accepted-write : (g : GuestState) (cpu : ℕ) (op : Op) (file off : ℕ) (bytes : List ℕ) → op ≡ Write file off bytes → start_accepted g cpu op ≡ start_tagged g cpu op (File file (off / PAGE))
+accepted-write g cpu op file off bytes is = rw is refl
 
 pub accepted-map : (g : GuestState) (cpu : ℕ) (op : Op) (number file first count : ℕ) (writable : Bool) → op ≡ MapFile number file first count writable
     → start_accepted g cpu op ≡ map_turn g cpu op number (OfFile file first writable) count (free_slot g.parts.maps)
@@ -34,6 +45,15 @@ accepted-load g cpu op number off len is = rw is refl
 
 pub accepted-store : (g : GuestState) (cpu : ℕ) (op : Op) (number off : ℕ) (bytes : List ℕ) → op ≡ Store number off bytes → start_accepted g cpu op ≡ start_mapped g cpu op true off (find_slot g.parts.maps (process_of g.plan cpu) number)
 accepted-store g cpu op number off bytes is = rw is refl
+
+pub accepted-pin : (g : GuestState) (cpu : ℕ) (op : Op) (number index : ℕ) → op ≡ Pin number index → start_accepted g cpu op ≡ start_placed g cpu op index (find_slot g.parts.maps (process_of g.plan cpu) number)
+accepted-pin g cpu op number index is = rw is refl
+
+pub accepted-unpin : (g : GuestState) (cpu : ℕ) (op : Op) (number index : ℕ) → op ≡ Unpin number index → start_accepted g cpu op ≡ start_placed g cpu op index (find_slot g.parts.maps (process_of g.plan cpu) number)
+accepted-unpin g cpu op number index is = rw is refl
+
+pub accepted-sync : (g : GuestState) (cpu : ℕ) (op : Op) (file : ℕ) → op ≡ Sync file → start_accepted g cpu op ≡ sync_turn g cpu (Sync file) 0
+accepted-sync g cpu op file is = rw is refl
 
 -- a new mapping that isn't refused has a number of its own
 pub new-fresh : (g : GuestState) (file first count : ℕ) (o : Option ℕ) → refusal_of_new g file first count o ≡ None → o ≡ None

@@ -8,8 +8,9 @@ use Rattle.cmm_types.specs.InRange.{IsPiece}
 use Rattle.guest_maps.specs.declared.slot.Slot.{Slot}
 use Rattle.guest_maps.specs.declared.slot.Spot.{Spot}
 use Rattle.guest_maps.specs.declared.slot.Pte.{Pte}
-use Rattle.guest_maps.specs.MapsView.{MapsView, slot_at, entry_at, tag_at, tag_in, has_page, spot_of, spot_at, is_writable, IsPlace}
-use Rattle.guest_rules.specs.Turns.{mapping_pages, slot_writable, refusal_at}
+use Rattle.guest_maps.specs.MapsView.{MapsView, slot_at, entry_at, pinned_at, tag_at, tag_in, has_page, spot_of, spot_at, is_writable, IsPlace}
+use Rattle.guest_maps.specs.MapsLaws.{spot_at-some, spot_at-none}
+use Rattle.guest_rules.specs.Turns.{mapping_pages, slot_writable, refusal_at, refusal_of_pin, refusal_of_pin_at}
 use Rattle.guest_core.specs.Between.{refusal_by_spot}
 
 -- a piece of a page lies within so many pages where its page does
@@ -59,3 +60,16 @@ spot-there maps slot index place = of (slot_at maps slot) (entry_at maps slot in
     of : (o : Option Slot) (pte : Option Pte) → has_page o index ≡ true → IsSome (spot_of o slot index pte)
     of None pte e = let bad : false ≡ true = e in absurd cc
     of (Some mapping) pte e = test (nat_lt index mapping.count) _ e
+
+-- the test of a place
+place_test : (o : Option Slot) (index : ℕ) → nat_lt index (mapping_pages o) ≡ has_page o index
+place_test None index = grind (arith, nat_tests)
+place_test (Some mapping) index = refl
+
+pub refusal-outside : (maps : MapsView) (pins : Bool) (slot index : ℕ) → spot_at maps slot index ≡ None → refusal_of_pin_at maps pins index (Some slot) ≡ Some OutOfRange
+refusal-outside maps pins slot index e =
+    ap (λ b. if b then refusal_of_pin pins (pinned_at maps slot index) else Some OutOfRange) (place_test (slot_at maps slot) index ∙ spot_at-none maps slot index e)
+
+pub refusal-placed : (maps : MapsView) (pins : Bool) (slot index : ℕ) (spot : Spot) → spot_at maps slot index ≡ Some spot → refusal_of_pin_at maps pins index (Some slot) ≡ refusal_of_pin pins (pinned_at maps slot index)
+refusal-placed maps pins slot index spot e =
+    ap (λ b. if b then refusal_of_pin pins (pinned_at maps slot index) else Some OutOfRange) (place_test (slot_at maps slot) index ∙ (spot_at-some maps slot index spot e).0)

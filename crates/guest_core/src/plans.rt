@@ -28,7 +28,7 @@ pub fn process(plan: &GuestPlan, cpu: u32) -> u32
 }
 
 /// The pages of a file; 0 where there is no such file.
-fn file_pages(files: &[FilePlan], file: u32) -> u32
+pub fn file_pages(files: &[FilePlan], file: u32) -> u32
     ensures { result ≡ file_pages files.now file }
 {
     match files.get(file as usize) {

@@ -1,10 +1,10 @@
 // Why commands are refused.
-ghost use Rattle.std.specs.Prelude.{◌≡◌, ◌<◌};
+ghost use Rattle.std.specs.Prelude.{◌≡◌, ◌<◌, length, Some};
 ghost use Rattle.cmm_types.specs.declared.command.TheConstants.{MAX_MAPPING_NUMBERS};
 ghost use Rattle.cmm_types.specs.declared.plan.TheConstants.{MAX_PROCESSES};
 ghost use Rattle.cmm_types.specs.InRange.{IsPiece};
 ghost use Rattle.guest_maps.specs.MapsView.{find_slot};
-ghost use Rattle.guest_rules.specs.Turns.{refusal_at};
+ghost use Rattle.guest_rules.specs.Turns.{refusal_at, refusal_of_pin, refusal_of_pin_at};
 ghost use Rattle.guest_core.specs.Between.{refusal_by_spot};
 
 use cmm_types::{FlatRefusal, PAGE};
@@ -43,5 +43,47 @@ pub fn refusal_at(
     match maps.find(process, map) {
         None => Some(FlatRefusal::NoMapping),
         Some(slot) => refusal_by_spot(writes, maps.spot(slot, off / PAGE as u32)),
+    }
+}
+
+/// Why a place that is pinned or not can't be pinned, or unpinned where `pins` is false.
+fn refusal_of_pin(pins: bool, is_pinned: bool) -> Option<FlatRefusal>
+    ensures { result ≡ refusal_of_pin pins is_pinned }
+{
+    if pins && is_pinned {
+        Some(FlatRefusal::Pinned)
+    } else if !pins && !is_pinned {
+        Some(FlatRefusal::NotPinned)
+    } else {
+        None
+    }
+}
+
+/// Why page `index` of the mapping in a slot can't be pinned, or unpinned where `pins` is false.
+fn refusal_in_slot(maps: &Maps, pins: bool, slot: u32, index: u32) -> Option<FlatRefusal>
+    requires slot { slot < length maps.now.slots }
+    ensures { result ≡ refusal_of_pin_at maps.now pins index (Some slot) }
+{
+    match maps.spot(slot, index) {
+        None => Some(FlatRefusal::OutOfRange),
+        Some(_) => refusal_of_pin(pins, maps.pinned(slot, index)),
+    }
+}
+
+/// Why a page of a process's mapping can't be pinned, or unpinned where `pins` is false.
+pub fn refusal_of_pin_at(
+    maps: &Maps,
+    pins: bool,
+    process: u32,
+    map: u32,
+    index: u32,
+) -> Option<FlatRefusal>
+    requires process { process < MAX_PROCESSES }
+    requires map { map < MAX_MAPPING_NUMBERS }
+    ensures { result ≡ refusal_of_pin_at maps.now pins index (find_slot maps.now process map) }
+{
+    match maps.find(process, map) {
+        None => Some(FlatRefusal::NoMapping),
+        Some(slot) => refusal_in_slot(maps, pins, slot, index),
     }
 }

@@ -10,20 +10,8 @@ use cmm_io::Disk;
 use cmm_storage::{Busy, Storage, Trap};
 use cmm_types::{Cause, PAGE, Why};
 use essa_state::Order;
-use guest_hint::{forget, rehint};
+use guest_hint::{backing, forget, rehint};
 use guest_rules::{Filled, Parts};
-
-/// The block that the page's tag is read from.
-fn backing(parts: &Parts, page: u32) -> Option<u32>
-    requires page { page < length parts.now.pages.infos }
-    requires tag { IfSome (info_at parts.now.pages page).tag (λ tag. IsTag parts.now.cache tag) }
-    ensures { result ≡ backing_at parts.now page }
-{
-    match parts.pages.info(page).tag {
-        None => None,
-        Some(tag) => parts.cache.backing(tag),
-    }
-}
 
 /// Frees the held page, which couldn't be filled, and gives it back.
 #[tactic(auto, using(cmm_storage::specs::Runs::runs))]

@@ -13,7 +13,7 @@ use guest_hint::{make_stable, rehint};
 use guest_rules::{Missed, Parts};
 
 /// Why the bytes of a page that was made stable weren't reached: it isn't discarded, so `Discarded` doesn't come.
-fn missed_by(trap: Trap) -> Missed
+pub(crate) fn missed_by(trap: Trap) -> Missed
     ensures { result ≡ missed_by trap }
 {
     match trap {

@@ -1,12 +1,12 @@
-// Reads of a guest's only page, over a storage whose host does what a list says.
+// Reads, writes and pins of a guest's only page, over a storage whose host does what a list says.
 ghost use Rattle.std.specs.Prelude.{◌≡◌, ◌<◌, None};
 
-use crate::read_page;
+use crate::{pin_page, read_page, write_page};
 use cmm_storage::{Noise, NoisyStorage, Storage};
 use cmm_types::{Bytes64, Cause, Why};
 use essa_state::Order;
 use guest_cache::Cache;
-use guest_maps::Maps;
+use guest_maps::{Maps, Shown};
 use guest_pages::Pages;
 use guest_rules::{Missed, Parts};
 use std::alloc::{AllocError, Global};
@@ -88,5 +88,91 @@ fn a_reader_meets_every_answer(rt: HostRuntime) -> Result<(), Fail> {
         })
     );
     assert_eq!(rt; (busy, free, faults), (true, None, 0));
+    Ok(())
+}
+
+/// What a write of four bytes to the page answers, whether the page is dirty then, and the count of faults. The first
+/// two noises come before the write.
+#[tactic(auto, unfolding(guest_pages::specs::PagesView::popped))]
+fn write(alloc: Global, noises: [Noise; 4]) -> Result<(Result<(), Missed>, bool, u64), AllocError> {
+    let mut parts = Parts {
+        pages: Pages::open(alloc, 1)?,
+        cache: Cache::open(alloc, &[], 0, 0)?,
+        maps: Maps::open(alloc, 1)?,
+        faults: 0,
+    };
+    parts.pages.pop();
+    let mut storage = NoisyStorage::open(alloc, 1, Vec::from_array(alloc, noises)?)?;
+    prepare(&mut storage);
+    let bytes = Bytes64::from_slice(&[1; 4]).unwrap();
+    let answer = write_page(&mut parts, &mut storage, 0, 4092, &bytes);
+    let dirty = parts.pages.count() > 0 && parts.pages.info(0).dirty;
+    Ok((answer, dirty, parts.faults))
+}
+
+#[test]
+fn a_writer_leaves_the_page_dirty_where_it_wrote(rt: HostRuntime) -> Result<(), Fail> {
+    use Noise::{Calm, Discard, NoFrame, PagerFails};
+    let alloc = rt.alloc();
+    let no_frame = Missed::Again {
+        why: Why::NoFrame { looks: 0 },
+    };
+    let paging = Missed::Fail(Cause::Paging);
+    assert_eq!(rt; write(alloc, [Calm, Calm, Calm, Calm])?, (Ok(()), true, 0));
+    assert_eq!(rt;
+        write(alloc, [Calm, Calm, Discard, Calm])?,
+        (Err(Missed::Gone), false, 1)
+    );
+    assert_eq!(rt;
+        write(alloc, [Calm, PagerFails, Calm, NoFrame])?,
+        (Err(no_frame), false, 0)
+    );
+    assert_eq!(rt;
+        write(alloc, [Calm, PagerFails, Calm, PagerFails])?,
+        (Err(paging), false, 0)
+    );
+    Ok(())
+}
+
+/// What a pin of the only place of a mapping answers, and the next free page then. The page is the place's, and the
+/// first two noises come before the pin.
+#[tactic(auto, using(guest_maps::specs::MapsLaws::places_kept), unfolding(guest_pages::specs::PagesView::popped))]
+fn pin(alloc: Global, noises: [Noise; 4]) -> Result<(Result<(), Missed>, Option<u32>), AllocError> {
+    let mut parts = Parts {
+        pages: Pages::open(alloc, 1)?,
+        cache: Cache::open(alloc, &[], 0, 0)?,
+        maps: Maps::open(alloc, 1)?,
+        faults: 0,
+    };
+    parts.pages.pop();
+    let shown = Shown::File {
+        file: 0,
+        first: 0,
+        writable: false,
+    };
+    let slot = parts.maps.add(0, 0, shown, 1);
+    let mut storage = NoisyStorage::open(alloc, 1, Vec::from_array(alloc, noises)?)?;
+    prepare(&mut storage);
+    let answer = pin_page(&mut parts, &mut storage, 0, slot, 0, true);
+    Ok((answer, parts.pages.top()))
+}
+
+#[test]
+fn a_pin_meets_every_answer(rt: HostRuntime) -> Result<(), Fail> {
+    use Noise::{Busy, Calm, Discard};
+    let alloc = rt.alloc();
+    assert_eq!(rt; pin(alloc, [Calm, Calm, Calm, Calm])?, (Ok(()), None));
+    assert_eq!(rt;
+        pin(alloc, [Calm, Calm, Discard, Calm])?,
+        (Err(Missed::Gone), Some(0))
+    );
+    let (answer, free) = pin(alloc, [Calm, Calm, Busy, Calm])?;
+    let busy = matches!(
+        answer,
+        Err(Missed::Again {
+            why: Why::Busy { page: 0, word: _ }
+        })
+    );
+    assert_eq!(rt; (busy, free), (true, None));
     Ok(())
 }

@@ -1,13 +1,12 @@
 -- Every run of a turn that finds the page of its command's tag is one of the cases of a turn.
 use Rattle.std.specs.Prelude.{◌≡◌, ℕ, ◌/◌, ◌%◌, List, Bool, true, false, Some, Result, Ok, Err, refl}
-use Rattle.std.proofs.Common.{ap, subst, inl, inr, ◌∙◌}
+use Rattle.std.proofs.Common.{ap, subst, ◌∙◌}
 use Rattle.cmm_types.specs.declared.page.TheConstants.{PAGE}
 use Rattle.cmm_types.specs.declared.page.Tag.{Tag}
 use Rattle.cmm_types.specs.declared.page.Tag.TheVariants.{File}
 use Rattle.cmm_types.specs.declared.command.Op.{Op}
-use Rattle.cmm_types.specs.declared.command.Op.TheVariants.{Read, Load, Store}
+use Rattle.cmm_types.specs.declared.command.Op.TheVariants.{Read, Write, Load, Store}
 use Rattle.cmm_types.specs.declared.command.Reply.TheVariants.{Bytes as BytesReply}
-use Rattle.cmm_types.specs.declared.command.Cause.TheVariants.{Disk, Paging, NoPage}
 use Rattle.cmm_types.specs.declared.turn.Turn.{Turn}
 use Rattle.cmm_flat.specs.State.{FlatState}
 use Rattle.cmm_flat.specs.Legal.{process_of}
@@ -17,18 +16,20 @@ use Rattle.cmm_storage.specs.Views.{Seen, unbind}
 use Rattle.guest_maps.specs.MapsView.{find_slot, entry_at}
 use Rattle.guest_rules.specs.declared.parts.Parts.{Parts}
 use Rattle.guest_rules.specs.declared.outcome.Missed.{Missed}
-use Rattle.guest_rules.specs.declared.outcome.Missed.TheVariants.{Gone as MissedGone, Again as MissedAgain, Fail as MissedFail}
 use Rattle.guest_rules.specs.declared.outcome.Resolved.{Resolved}
 use Rattle.guest_rules.specs.declared.outcome.Resolved.TheVariants.{Mapped, Gone as EntryGone, Again as EntryAgain}
 use Rattle.guest_rules.specs.Rows.{read_page, resolve}
 use Rattle.guest_rules.specs.GuestState.{GuestState, with_parts, entered}
 use Rattle.guest_rules.specs.Turns.{use_turn, read_next, resolve_in, resolve_next}
 use Rattle.guest_rules.specs.Fit.{FitAt}
-use Rattle.guest_rules.proofs.TurnCases.{TurnCase, missed, missed_rehinted, was_gone, was_read, read_failed, was_resolved, HasPage, Maps, CanBeSet}
+use Rattle.guest_rules.proofs.TurnCases.{TurnCase, missed, was_gone, was_read, was_resolved, HasPage, Maps, CanBeSet, pin_op}
 use Rattle.guest_rules.proofs.ReadPage.{ReadOutcome, seen_read_page}
 use Rattle.guest_rules.proofs.ResolvePage.{ResolveOutcome, seen_resolve}
 use Rattle.guest_rules.proofs.Ready.{can_be_used, is_used_mapped}
-use Rattle.guest_rules.proofs.Reached.{Proceeds, Uses, reads, sets}
+use Rattle.guest_rules.proofs.Reached.{Proceeds, Uses, reads, overwrites, sets, places}
+use Rattle.guest_rules.proofs.CaseMissed.{case_missed}
+use Rattle.guest_rules.proofs.CaseWrite.{case_write}
+use Rattle.guest_rules.proofs.CasePin.{case_pin}
 
 -- a read
 case_read_next : (g : GuestState) (v n w : StorageView) (d y e : DiskView) (cpu file off len page : ℕ) (parts : Parts) (r : Result (List ℕ) Missed) (h : GuestState) (t : Turn)
@@ -37,18 +38,8 @@ case_read_next : (g : GuestState) (v n w : StorageView) (d y e : DiskView) (cpu 
 case_read_next g v n w d y e cpu file off len page parts (Ok bytes) h t k has o (ea, em, ed) =
     was_read file off len page o.found o.all parts k.starts has (rw (em, ed) o.is.back) o.is.may o.are (rw em o.is.rehinted)
     (ap (λ q. q.0) ea ∙ ap (λ q. entered (with_parts g parts) cpu (Read file off len) (BytesReply q)) o.taken) (ap (λ q. q.1) ea)
-case_read_next g v n w d y e cpu file off len page parts (Err MissedGone) h t k has o (ea, em, ed) =
-    was_gone (Read file off len) (File file (off / PAGE)) page o.found k.starts k.wants has
-    (ap (λ q. q.0) ea ∙ ap (λ q. with_parts g q) o.tables) (ap (λ q. q.1) ea) (rw (em, ed) o.back) o.may o.lost (rw em o.unused) o.quiet
-case_read_next g v n w d y e cpu file off len page parts (Err (MissedAgain why)) h t k has (inl (tables, may, disk), misses) (ea, em, ed) =
-    missed (Read file off len) why k.starts.has (ap (λ q. q.0) ea ∙ ap (λ q. with_parts g q) tables) (ap (λ q. q.1) ea) (rw (em, ed) may) (rw em misses) (ed ∙ disk)
-case_read_next g v n w d y e cpu file off len page parts (Err (MissedAgain why)) h t k has (inr (found, is), misses) (ea, em, ed) =
-    missed_rehinted why (Read file off len) (File file (off / PAGE)) page found parts k.starts k.wants has
-    (ap (λ q. q.0) ea) (ap (λ q. q.1) ea) (rw (em, ed) is.back) is.may (rw em is.rehinted) (rw em misses) (ed ∙ is.disk)
-case_read_next g v n w d y e cpu file off len page parts (Err (MissedFail Paging)) h t k has ((found, is), risen) (ea, em, ed) =
-    read_failed file off len page found parts k.starts has (rw (em, ed) is.back) is.may (rw em is.rehinted) (ap (λ q. q.0) ea) (ap (λ q. q.1) ea) (rw em risen)
-case_read_next g v n w d y e cpu file off len page parts (Err (MissedFail Disk)) h t k has o run = absurd o
-case_read_next g v n w d y e cpu file off len page parts (Err (MissedFail (NoPage pinned unslotted))) h t k has o run = absurd o
+case_read_next g v n w d y e cpu file off len page parts (Err miss) h t k has o run =
+    case_missed g v n w d y e cpu (Read file off len) (File file (off / PAGE)) page parts miss h t tt k.starts k.wants has o run
 
 case_read : (state : FlatState) (g : GuestState) (v w : StorageView) (d e : DiskView) (cpu file off len page : ℕ) (h : GuestState) (t : Turn)
     → FitAt state g v d → Proceeds g cpu (Read file off len) (File file (off / PAGE)) → HasPage g (File file (off / PAGE)) page
@@ -105,3 +96,11 @@ case_use state g v w d e cpu op tag page h t f k (reads file off len is same) ha
     let k' : Proceeds g cpu (Read file off len) (File file (off / PAGE)) = subst (λ q. Proceeds g cpu (Read file off len) q) same (subst (λ q. Proceeds g cpu q tag) is k) in
     let run' : Seen {A = GuestState × Turn} (use_turn g cpu (Read file off len) page) v d (h, t) w e = subst (λ q. Seen {A = GuestState × Turn} (use_turn g cpu q page) v d (h, t) w e) is run in
     case_read state g v w d e cpu file off len page h t f k' (subst (λ q. HasPage g q page) same has) run'
+case_use state g v w d e cpu op tag page h t f k (overwrites file off bytes is same) has run =
+    let k' : Proceeds g cpu (Write file off bytes) (File file (off / PAGE)) = subst (λ q. Proceeds g cpu (Write file off bytes) q) same (subst (λ q. Proceeds g cpu q tag) is k) in
+    let run' : Seen {A = GuestState × Turn} (use_turn g cpu (Write file off bytes) page) v d (h, t) w e = subst (λ q. Seen {A = GuestState × Turn} (use_turn g cpu q page) v d (h, t) w e) is run in
+    case_write state g v w d e cpu file off bytes page h t f k' (subst (λ q. HasPage g q page) same has) run'
+case_use state g v w d e cpu op tag page h t f k (places pins number index slot is found) has run =
+    let k' : Proceeds g cpu (pin_op pins number index) tag = subst (λ q. Proceeds g cpu q tag) is k in
+    let run' : Seen {A = GuestState × Turn} (use_turn g cpu (pin_op pins number index) page) v d (h, t) w e = subst (λ q. Seen {A = GuestState × Turn} (use_turn g cpu q page) v d (h, t) w e) is run in
+    case_pin state g v w d e cpu pins number index slot tag page h t f k' found has run'

@@ -1,5 +1,5 @@
 -- The entries stay fit: where one page's info changes, where a page is freed, where an entry is set, and where a file is mapped.
-use Rattle.std.proofs.Common.{◌≡◌, ◌≢◌, ◌<◌, ◌+◌, ◌*◌, ℕ, Bool, true, false, length, Option, Some, None, ap, sym, ◌∙◌, inl, inr, subst, arith}
+use Rattle.std.proofs.Common.{◌≡◌, ◌≢◌, ◌<◌, ◌+◌, ◌*◌, ℕ, Bool, true, false, length, slice_index_or, count_by, Option, Some, None, ap, sym, ◌∙◌, inl, inr, subst, arith}
 use Rattle.std.proofs.lemmas.Bool.{cases_eq}
 use Rattle.cmm_types.specs.declared.page.Tag.{Tag}
 use Rattle.cmm_types.specs.declared.command.TheConstants.{MAX_MAPPING_PAGES}
@@ -9,7 +9,7 @@ use Rattle.guest_pages.specs.PagesView.{free_info, info_at}
 use Rattle.guest_maps.specs.declared.slot.Pte.{Pte}
 use Rattle.guest_maps.specs.declared.slot.Slot.{Slot}
 use Rattle.guest_maps.specs.declared.slot.Shown.{Shown}
-use Rattle.guest_maps.specs.MapsView.{MapsView, slot_at, entry_at, place_at, tag_in, tag_at, has_page, with_entry, without_entries_of, with_slot, with_mapping}
+use Rattle.guest_maps.specs.MapsView.{MapsView, slot_at, entry_at, place_at, tag_in, tag_at, has_page, stores_to, with_entry, without_entries_of, with_slot, with_mapping}
 use Rattle.guest_maps.specs.MapsLaws.{place_exact, slots-with_entry, entry_at-with_entry_other, slots-without_entries_of, writers_showing-without_same, writers_showing-without_other, slot_at-with_mapping_other}
 use Rattle.guest_rules.specs.declared.parts.Parts.{Parts}
 use Rattle.guest_rules.specs.Rows.{one_if}
@@ -53,6 +53,19 @@ EntriesFit-info old new page info f change maps shows writers = record {
   writers = λ i. elim (cases_eq i page) [
     | inl z ↦ rw (z, change.here, maps) (writers ∙ f.writers page)
     | inr n ↦ rw (change.others i n, maps) (f.writers i)
+  ];
+}
+
+-- the same where other places are pinned
+pub EntriesFit-pinned : (old new : Parts) (page : ℕ) (info : PageInfo) → EntriesFit old → InfoChange old.pages new.pages page info → new.maps.slots ≡ old.maps.slots → new.maps.entries ≡ old.maps.entries
+    → ((tag : Tag) → (info_at old.pages page).tag ≡ Some tag → (info_at old.pages page).uptodate ≡ true → (info.tag ≡ Some tag) × (info.uptodate ≡ true)) → info.writers ≡ (info_at old.pages page).writers → EntriesFit new
+EntriesFit-pinned old new page info f change slots entries shows writers = record {
+  entry = λ slot index pte lt e.
+      IsEntry-kept old new slot index pte (f.entry slot index pte lt (ap (λ xs. slice_index_or xs (place_at slot index) None) (sym entries) ∙ e)) (ap (λ xs. slice_index_or xs slot None) slots)
+      (still_shown old new page info change shows pte.page);
+  writers = λ i. elim (cases_eq i page) [
+    | inl z ↦ rw (z, change.here) (writers ∙ f.writers page ∙ ap (λ xs. count_by (stores_to page) xs) (sym entries))
+    | inr n ↦ rw (change.others i n) (f.writers i ∙ ap (λ xs. count_by (stores_to i) xs) (sym entries))
   ];
 }
 

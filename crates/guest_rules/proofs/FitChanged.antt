@@ -13,13 +13,15 @@ use Rattle.guest_rules.specs.GuestState.{GuestState, processor_at}
 use Rattle.guest_rules.specs.Fit.{PagesFit, SlotsFit, EntriesFit, FlatFit, LocksFit, JournalFit, FaultsFit, FitAt, one_if_lost}
 use Rattle.guest_rules.proofs.TurnCases.{GivenBack}
 use Rattle.guest_rules.proofs.ValueLaws.{may-faults}
-use Rattle.guest_rules.proofs.Faults.{over_pages-more}
+use Rattle.guest_rules.proofs.Faults.{sum_below-more}
 use Rattle.guest_rules.proofs.Changes.{InfoChange, PhaseChange}
-use Rattle.guest_rules.proofs.PageFits.{PageFits, EachPageFits, PageFits-may, PageFits-same, EachPageFits-from, PinsFit-from, HintsFit-from, ContentsFit-from}
+use Rattle.guest_rules.proofs.PageFits.{PageFits, EachPageFits, PageFits-may, PageFits-same, EachPageFits-from, HintsFit-from, ContentsFit-from}
+use Rattle.guest_rules.proofs.PinsKept.{PinsStand, PinsFit-from}
 use Rattle.guest_rules.proofs.Currents.{SameCurrent}
 use Rattle.guest_rules.proofs.FitMay.{infos-pages}
 
-JournalFit-phase : (g h : GuestState) (cpu : ℕ) (phase : Phase) → JournalFit g → h.plan ≡ g.plan → h.journal ≡ g.journal → PhaseChange g.processors h.processors cpu phase → JournalFit h
+-- only a processor's phase changed
+pub JournalFit-phase : (g h : GuestState) (cpu : ℕ) (phase : Phase) → JournalFit g → h.plan ≡ g.plan → h.journal ≡ g.journal → PhaseChange g.processors h.processors cpu phase → JournalFit h
 JournalFit-phase g h cpu phase f plan journal change = record {
   legal = rw (plan, journal) f.legal;
   places = λ q below. rw (plan, journal, places q) (f.places q (rw change.size at below));
@@ -44,6 +46,7 @@ pub record TableStep (g : GuestState) (v : StorageView) (d : DiskView) (h : Gues
   pub index : length h.parts.cache.index ≡ length g.parts.cache.index
   pub info_change : InfoChange g.parts.pages h.parts.pages page info
   pub phase_change : PhaseChange g.processors h.processors cpu phase
+  pub pins : PinsStand h.parts
   pub fits : PageFits g.parts.cache d info (w.values page)
 
 -- so many discards are handled in the step
@@ -53,7 +56,7 @@ pub record FaultStep (more : ℕ) (g : GuestState) (v : StorageView) (h : GuestS
 
 FaultsFit-step : (g h : GuestState) (v w : StorageView) (more page : ℕ) → FaultsFit g.parts v → w.pages ≡ v.pages → page < v.pages → ((i : ℕ) → i ≢ page → MayBecome (v.values i) (w.values i)) → FaultStep more g v h w page → FaultsFit h.parts w
 FaultsFit-step g h v w more page f pages below others step =
-    let sums = over_pages-more (λ i. (v.values i).count) (λ i. one_if_lost (w.values i)) (λ i. (w.values i).count) (λ i. one_if_lost (v.values i)) more page v.pages below (λ i _ n. may-faults (v.values i) (w.values i) (others i n)) step.counted in
+    let sums = sum_below-more (λ i. (v.values i).count) (λ i. one_if_lost (w.values i)) (λ i. (w.values i).count) (λ i. one_if_lost (v.values i)) more page v.pages below (λ i _ n. may-faults (v.values i) (w.values i) (others i n)) step.counted in
     rw pages (omega (arith, sums, step.handled, f))
 
 -- what fit of the guest before gives of its pages, and what the step keeps of their bytes
@@ -85,7 +88,7 @@ FitAt-step state later g v d h w e cpu page more phase info f step pages slots e
   pages = pages;
   slots = slots;
   entries = entries;
-  pins = PinsFit-from h.parts w e fits;
+  pins = PinsFit-from h.parts w e step.pins fits;
   locks = locks;
   hints = HintsFit-from h.parts w e step.back.held fits;
   contents = ContentsFit-from h.parts w e (step.back.keeps.tells ∙ f.contents.tells) f.contents.told.0 (step.back.blocks ∙ f.contents.told.1) (rw (step.back.count, step.back.blocks) f.contents.blocks) fits;

@@ -1,5 +1,5 @@
 -- An entry with a legal reply, at a processor in phase Start, keeps fit.
-use Rattle.std.proofs.Common.{◌≡◌, ◌≢◌, ◌<◌, ◌≤◌, ◌+◌, ◌++◌, ℕ, [], ◌∷◌, set, length, Some, refl, ap, sym, ◌∙◌, inl, inr, subst, arith, length-set, get_or-set_same, get_or-set_other}
+use Rattle.std.proofs.Common.{◌≡◌, ◌<◌, ◌≤◌, ◌+◌, ◌++◌, ℕ, [], ◌∷◌, set, length, Some, refl, ap, sym, ◌∙◌, inl, inr, subst, arith, length-set, get_or-set_same, get_or-set_other}
 use Rattle.std.proofs.lemmas.Bool.{cases_eq}
 use Rattle.std.proofs.lemmas.List.{length_push}
 use Rattle.std.proofs.lemmas.List.Sums.{sum_by-set}
@@ -11,13 +11,11 @@ use Rattle.cmm_flat.specs.State.{FlatState}
 use Rattle.cmm_flat.specs.Legal.{Walk, Progress, IsReply, start_of, progress_of, process_of, command_of, flat_of, flat_after, after, walk_of}
 use Rattle.cmm_flat.specs.LegalLaws.{walk_of-push, LegalFrom-push, progress_of-after_other, next-after, length-cpus, length-start}
 use Rattle.cmm_storage.specs.StorageView.{StorageView}
-use Rattle.guest_rules.specs.declared.processor.Phase.TheVariants.{Start, Fill}
+use Rattle.guest_rules.specs.declared.processor.Phase.TheVariants.{Start}
 use Rattle.guest_rules.specs.declared.processor.Processor.{Processor}
 use Rattle.guest_rules.specs.GuestState.{GuestState, at_start, processor_at, entered}
-use Rattle.guest_rules.specs.Fit.{LocksFit, JournalFit, FitAt, Fit, commands_of}
-use Rattle.guest_pages.specs.PagesView.{info_at}
-use Rattle.guest_rules.specs.declared.parts.Parts.{Parts}
-use Rattle.guest_rules.proofs.LocksKept.{filling_other}
+use Rattle.guest_rules.specs.Fit.{JournalFit, FitAt, Fit, commands_of}
+use Rattle.guest_rules.proofs.LocksKept.{locks_none, LocksFit-passed}
 use Rattle.guest_rules.proofs.Commands.{command-below}
 
 -- the entry of the processor's command
@@ -29,21 +27,6 @@ walk_at g = walk_of g.plan (start_of g.plan) g.journal
 
 abbrev next_one : GuestState → ℕ → Processor
 next_one g cpu = record { place = (processor_at g cpu).place + 1; phase = Start }
-
-LocksFit-entered : (g h : GuestState) (cpu : ℕ) → LocksFit g → h.plan ≡ g.plan → h.parts ≡ g.parts → length h.processors ≡ length g.processors → (processor_at g cpu).phase ≡ Start → (processor_at h cpu).phase ≡ Start
-    → ((q : ℕ) → q ≢ cpu → processor_at h q ≡ processor_at g q) → LocksFit h
-LocksFit-entered g h cpu f plan parts size start now others = record {
-  stale_clean = λ i u. rw parts (f.stale_clean i (rw parts at u));
-  filling = λ q i e.
-      let n : q ≢ cpu = λ z. let bad : Start ≡ Fill i = sym now ∙ ap (λ x. (processor_at h x).phase) (sym z) ∙ e in cc in
-      let was = f.filling q i (ap (λ (p : Processor). p.phase) (sym (others q n)) ∙ e) in
-      (rw size was.0, filling_other g h q i plan (others q n) (ap (λ (p : Parts). length p.pages.infos) parts) (ap (λ (p : Parts). info_at p.pages i) parts) was.1);
-  locked = λ q i e.
-      let was = f.locked q i (rw parts at e) in
-      let n : q ≢ cpu = λ z. let bad : Start ≡ Fill i = sym start ∙ ap (λ x. (processor_at g x).phase) (sym z) ∙ was in cc in
-      ap (λ (p : Processor). p.phase) (others q n) ∙ was;
-  stale = λ i t e none. rw parts (f.stale i t (rw parts at e) (rw parts at none));
-}
 
 JournalFit-entered : (g h : GuestState) (cpu : ℕ) (op : Op) (reply : Reply) → JournalFit g → length g.processors ≡ length g.plan.cpus → cpu < length g.processors → command_of g.plan cpu (processor_at g cpu).place ≡ Some op
     → IsReply g.plan (walk_at g) (process_of g.plan cpu) op reply → h.plan ≡ g.plan → h.journal ≡ g.journal ++ entry_of g cpu op reply ∷ [] → h.processors ≡ set g.processors cpu (next_one g cpu) → JournalFit h
@@ -95,8 +78,9 @@ Fit-entered g v d cpu op reply f below start command reply_is =
       slots = f.slots;
       entries = f.entries;
       pins = f.pins;
-      locks = LocksFit-entered g (entered g cpu op reply) cpu f.locks refl refl (length-set g.processors cpu (next_one g cpu)) start
-          (ap (λ (p : Processor). p.phase) (get_or-set_same g.processors cpu (next_one g cpu) at_start below)) (λ q n. get_or-set_other g.processors cpu q (next_one g cpu) at_start n);
+      locks = LocksFit-passed g (entered g cpu op reply) cpu Start f.locks refl refl (length-set g.processors cpu (next_one g cpu))
+          (ap (λ (p : Processor). p.phase) (get_or-set_same g.processors cpu (next_one g cpu) at_start below)) (λ q n. get_or-set_other g.processors cpu q (next_one g cpu) at_start n)
+          (locks_none g cpu Start start tt) tt tt;
       hints = f.hints;
       contents = f.contents;
       flat = record { lengths = f.flat.lengths; pages = f.flat.pages };

@@ -11,7 +11,7 @@ use Rattle.guest_rules.specs.GuestState.{GuestState}
 use Rattle.guest_rules.specs.Fit.{FitAt, SizesFit, backing, current, current_at, one_if_lost}
 use Rattle.guest_rules.proofs.TurnCases.{AllMay}
 use Rattle.guest_rules.proofs.ValueLaws.{may-faults}
-use Rattle.guest_rules.proofs.Faults.{over_pages-le}
+use Rattle.guest_rules.proofs.Faults.{sum_below-le}
 use Rattle.guest_rules.proofs.PageFits.{EachPageFits, PageFits-may, PageFits-same, EachPageFits-from, HintsFit-from, ContentsFit-from, backing-same}
 use Rattle.guest_rules.proofs.Currents.{current_bytes-may}
 
@@ -40,7 +40,7 @@ FitAt-may state g v d w e f may = record {
   contents = ContentsFit-from g.parts w e (may.tells ∙ f.contents.tells) f.contents.told.0 (may.blocks ∙ f.contents.told.1) (rw (may.count, may.blocks) f.contents.blocks) fits;
   flat = record { lengths = f.flat.lengths; pages = λ file index is. f.flat.pages file index is ∙ sym (same (File file index) is) };
   journal = f.journal;
-  faults = rw may.pages (omega (arith, over_pages-le (λ i. (v.values i).count) (λ i. one_if_lost (w.values i)) (λ i. (w.values i).count) (λ i. one_if_lost (v.values i)) v.pages (λ i lt. may-faults (v.values i) (w.values i) (may.values i lt)), f.faults));
+  faults = rw may.pages (omega (arith, sum_below-le (λ i. (v.values i).count) (λ i. one_if_lost (w.values i)) (λ i. (w.values i).count) (λ i. one_if_lost (v.values i)) v.pages (λ i lt. may-faults (v.values i) (w.values i) (may.values i lt)), f.faults));
 }
   where
     size : length g.parts.pages.infos ≡ v.pages

@@ -1,25 +1,21 @@
 -- Every turn keeps fit.
-use Rattle.std.proofs.Common.{◌≡◌, ◌<◌, ◌/◌, ℕ, Bool, Some, length, refl, ap, sym, ◌∙◌, subst, length-set, get_or-set_same, set-set}
+use Rattle.std.proofs.Common.{◌≡◌, ℕ, Bool, Some, sym, ◌∙◌, subst}
 use Rattle.cmm_types.specs.declared.command.Op.{Op}
-use Rattle.cmm_types.specs.declared.command.Op.TheVariants.{Read, Load, Store}
-use Rattle.cmm_types.specs.declared.command.Reply.{Reply}
+use Rattle.cmm_types.specs.declared.command.Op.TheVariants.{Load, Store}
 use Rattle.cmm_types.specs.declared.command.Reply.TheVariants.{Fail}
 use Rattle.cmm_types.specs.declared.command.Cause.{Cause}
 use Rattle.cmm_types.specs.declared.command.Cause.TheVariants.{Paging}
-use Rattle.cmm_types.specs.declared.page.TheConstants.{PAGE}
-use Rattle.cmm_types.specs.declared.page.Tag.TheVariants.{File}
 use Rattle.cmm_types.specs.declared.turn.Turn.{Turn}
 use Rattle.cmm_io.specs.DiskView.{DiskView}
 use Rattle.cmm_flat.specs.Legal.{flat_of}
 use Rattle.essa_state.specs.PageValue.{IsMadeUnused}
 use Rattle.cmm_storage.specs.StorageView.{StorageView}
 use Rattle.guest_rules.specs.declared.processor.Phase.TheVariants.{Start, Fill}
-use Rattle.guest_rules.specs.declared.processor.Processor.{Processor}
-use Rattle.guest_rules.specs.GuestState.{GuestState, at_start, processor_at, with_parts, with_phase, entered}
+use Rattle.guest_rules.specs.GuestState.{GuestState, processor_at, with_parts, with_phase, entered}
 use Rattle.guest_rules.specs.Rows.{freed}
 use Rattle.guest_rules.specs.Turns.{begun}
 use Rattle.guest_rules.specs.Fit.{Fit, NeedsPage}
-use Rattle.guest_rules.proofs.TurnCases.{GivenBack, Has, Maps, FillCause, TurnCase, was_idle, was_refused, was_mapped, waited, missed, missed_rehinted, was_begun, was_gone, was_read, read_failed, was_resolved, was_loaded, was_stored, entry_failed, fill_failed, was_filled}
+use Rattle.guest_rules.proofs.TurnCases.{GivenBack, Has, Maps, FillCause, TurnCase, was_idle, was_refused, was_mapped, waited, missed, missed_rehinted, was_begun, was_gone, was_read, was_written, touch_failed, was_resolved, was_loaded, was_stored, entry_failed, fill_failed, was_filled, was_pinned, was_sync}
 use Rattle.guest_rules.proofs.FitMay.{FitAt-may}
 use Rattle.guest_rules.proofs.StepBegun.{Fit-begun}
 use Rattle.guest_rules.proofs.StepFreed.{Fit-gone, Fit-given_up}
@@ -27,25 +23,13 @@ use Rattle.guest_rules.proofs.StepFilled.{Fit-filled}
 use Rattle.guest_rules.proofs.StepTold.{Fit-rehinted}
 use Rattle.guest_rules.proofs.StepResolved.{Fit-resolved}
 use Rattle.guest_rules.proofs.Replies.{Fit-refused, Fit-read, Fit-failed}
+use Rattle.guest_rules.proofs.ReplyWritten.{Fit-written}
 use Rattle.guest_rules.proofs.ReplyMapped.{Fit-mapped}
 use Rattle.guest_rules.proofs.ReplyLoaded.{Fit-loaded}
 use Rattle.guest_rules.proofs.ReplyStored.{Fit-stored}
-
--- an entry leaves its processor in phase Start, whatever it did before
-entered-start : (g : GuestState) (cpu : ℕ) (op : Op) (reply : Reply) → cpu < length g.processors → entered (with_phase g cpu Start) cpu op reply ≡ entered g cpu op reply
-unfolding entered with_phase
-entered-start g cpu op reply below = rw (get_or-set_same g.processors cpu (record { place = (processor_at g cpu).place; phase = Start }) at_start below, set-set) refl
-
-start-has : (g : GuestState) (cpu : ℕ) (op : Op) → Has g cpu op → Has (with_phase g cpu Start) cpu op
-unfolding with_phase
-start-has g cpu op has = record {
-  below = rw length-set has.below;
-  command = rw (get_or-set_same g.processors cpu (record { place = (processor_at g cpu).place; phase = Start }) at_start has.below) has.command;
-}
-
-start-phase : (g : GuestState) (cpu : ℕ) → cpu < length g.processors → (processor_at (with_phase g cpu Start) cpu).phase ≡ Start
-unfolding with_phase
-start-phase g cpu below = ap (λ (p : Processor). p.phase) (get_or-set_same g.processors cpu (record { place = (processor_at g cpu).place; phase = Start }) at_start below)
+use Rattle.guest_rules.proofs.ReplyPinned.{Fit-pinned}
+use Rattle.guest_rules.proofs.FitPassed.{entered-start, start-has, start-phase}
+use Rattle.guest_rules.proofs.FitSync.{Fit-sync}
 
 -- a page couldn't be filled: it is freed, and the command fails
 Fit-fill_failed : (g : GuestState) (v : StorageView) (d : DiskView) (w : StorageView) (e : DiskView) (cpu : ℕ) (op : Op) (page : ℕ) (cause : Cause) → Fit g v d → Has g cpu op → (processor_at g cpu).phase ≡ Fill page
@@ -77,17 +61,22 @@ fit_turn g cpu v d h t w e f (missed_rehinted why op tag page found after starts
     rw eh (Fit-rehinted (flat_of g.plan g.journal) g v d w e page tag found after f has back may told)
 fit_turn g cpu v d h t w e f (was_begun op tag page rest found starts wants none top eh et back may value) =
     rw eh (Fit-begun (flat_of g.plan g.journal) g v d w e cpu op tag page rest found f starts wants none top back may value)
-fit_turn g cpu v d h t w e f (was_gone op tag page found starts wants has eh et back may lost unused quiet) = rw eh (Fit-gone (flat_of g.plan g.journal) g v d w e cpu op tag page found f starts has back may lost unused)
+fit_turn g cpu v d h t w e f (was_gone op tag page found starts wants has eh et back may lost unused quiet) = rw eh (Fit-gone (flat_of g.plan g.journal) g v d w e tag page found f has back may lost unused)
 fit_turn g cpu v d h t w e f (was_read file off len page found all after starts has back may are told eh et) = rw eh (Fit-read g v d w e cpu file off len page found all after f starts has back may are told)
-fit_turn g cpu v d h t w e f (read_failed file off len page found after starts has back may told eh et risen) =
-    rw eh (Fit-failed (with_parts g after) v d w e w e cpu (Read file off len) Paging (Fit-rehinted (flat_of g.plan g.journal) g v d w e page (File file (off / PAGE)) found after f has back may told)
-    (record { below = starts.has.below; command = starts.has.command }) tt starts.start risen)
+fit_turn g cpu v d h t w e f (was_written file off bytes page found all starts has back may are value eh et) =
+    rw eh (Fit-written g v d w e cpu file off bytes page found all f starts has back may are value)
+fit_turn g cpu v d h t w e f (touch_failed op tag page found after needs starts wants has back may told eh et risen) =
+    rw eh (Fit-failed (with_parts g after) v d w e w e cpu op Paging (Fit-rehinted (flat_of g.plan g.journal) g v d w e page tag found after f has back may told)
+    (record { below = starts.has.below; command = starts.has.command }) needs starts.start risen)
 fit_turn g cpu v d h t w e f (was_resolved op tag writes slot off page found after starts wants maps has can back may told eh et) =
     rw eh (Fit-resolved (flat_of g.plan g.journal) g v d w e cpu op tag writes slot off page found after f starts wants maps has can back may told)
 fit_turn g cpu v d h t w e f (was_loaded number off len slot page writable all starts found entry are eh et may) = rw eh (Fit-loaded g v d w e cpu number off len slot page writable all f starts found entry are may)
 fit_turn g cpu v d h t w e f (was_stored number off bytes slot page found all starts slot_found entry back may are value eh et) =
     rw eh (Fit-stored g v d w e cpu number off bytes slot page found all f starts slot_found entry back may are value)
+fit_turn g cpu v d h t w e f (was_pinned pins number index slot tag page found after starts wants at has back may told eh et) =
+    rw eh (Fit-pinned g v d w e cpu pins number index slot tag page found after f starts wants at has back may told)
 fit_turn g cpu v d h t w e f (entry_failed op writes slot off starts maps eh et may risen) =
     rw eh (Fit-failed g v d w e w e cpu op Paging (FitAt-may (flat_of g.plan g.journal) g v d w e f may) starts.has (through-needs g cpu op writes slot off maps) starts.start risen)
 fit_turn g cpu v d h t w e f (fill_failed op page cause has phase eh et back unused risen) = rw eh (Fit-fill_failed g v d w e cpu op page cause f has phase back unused risen)
 fit_turn g cpu v d h t w e f (was_filled op page tag has phase tagged eh et back value) = rw eh (Fit-filled (flat_of g.plan g.journal) g v d w e cpu page tag f has.below phase tagged back value)
+fit_turn g cpu v d h t w e f (was_sync file index case) = Fit-sync g v d h w e cpu file index t f case

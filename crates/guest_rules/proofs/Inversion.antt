@@ -1,11 +1,11 @@
 -- Every run of a turn is one of its cases.
 use Rattle.std.specs.Prelude.{◌≡◌, ◌<◌, ℕ, ◌/◌, List, [], ◌∷◌, length, Bool, true, false, not, ◌&&◌, if◌then◌else◌, Option, Some, None, refl}
-use Rattle.std.proofs.Common.{ap, sym, subst, ◌∙◌}
+use Rattle.std.proofs.Common.{ap, sym, subst, ◌∙◌, inl, inr}
 use Rattle.cmm_types.specs.declared.page.TheConstants.{PAGE}
 use Rattle.cmm_types.specs.declared.page.Tag.{Tag}
 use Rattle.cmm_types.specs.declared.page.Tag.TheVariants.{File}
 use Rattle.cmm_types.specs.declared.command.Op.{Op}
-use Rattle.cmm_types.specs.declared.command.Op.TheVariants.{Read, MapFile, Load, Store}
+use Rattle.cmm_types.specs.declared.command.Op.TheVariants.{Read, Write, MapFile, Load, Store, Pin, Unpin, Sync}
 use Rattle.cmm_types.specs.declared.command.FlatRefusal.{FlatRefusal}
 use Rattle.cmm_types.specs.declared.command.FlatRefusal.TheVariants.{NoMapping}
 use Rattle.cmm_types.specs.declared.turn.Turn.{Turn}
@@ -20,20 +20,23 @@ use Rattle.guest_maps.specs.declared.slot.Pte.{Pte}
 use Rattle.guest_maps.specs.declared.slot.Shown.TheVariants.{File as OfFile}
 use Rattle.guest_maps.specs.MapsView.{find_slot, free_slot, entry_at, tag_at}
 use Rattle.guest_rules.specs.declared.processor.Phase.{Phase}
-use Rattle.guest_rules.specs.declared.processor.Phase.TheVariants.{Start, Fill}
+use Rattle.guest_rules.specs.declared.processor.Phase.TheVariants.{Start, Fill, Sync as AtSync, SyncWrite}
 use Rattle.guest_rules.specs.GuestState.{GuestState, processor_at}
 use Rattle.guest_rules.specs.Built.{IsBuiltOp}
-use Rattle.guest_rules.specs.Turns.{turn, turn_on, turn_in, start_turn, start_refused, start_accepted, start_mapped, start_entry, start_at, start_tagged, start_found, start_free, start_locked, hit_turn, map_turn, refusal_at, refusal_in}
+use Rattle.guest_rules.specs.Turns.{turn, turn_on, turn_in, start_turn, start_refused, start_accepted, start_mapped, start_placed, start_entry, start_at, start_tagged, start_found, start_free, start_locked, hit_turn, map_turn, refusal_at, refusal_in, sync_turn, write_back_turn}
 use Rattle.guest_rules.specs.Fit.{FitAt}
-use Rattle.guest_rules.proofs.TurnCases.{TurnCase, was_idle, was_refused, was_mapped, waited, Has, Starts, CanBeSet}
+use Rattle.guest_rules.proofs.TurnCases.{TurnCase, was_idle, was_refused, was_mapped, waited, Has, Starts, CanBeSet, pin_op, was_sync, Syncs}
 use Rattle.guest_rules.proofs.Room.{never_full}
 use Rattle.guest_rules.proofs.Ready.{found_page}
 use Rattle.guest_rules.proofs.Commands.{command-built}
-use Rattle.guest_rules.proofs.Reached.{Proceeds, Reaches, reads, sets, load_reaches, store_reaches, has_free_slot}
-use Rattle.guest_rules.proofs.WantedTags.{IsWanted, is_wanted}
+use Rattle.guest_rules.proofs.Reached.{Proceeds, Reaches, reads, overwrites, sets, load_reaches, store_reaches, has_free_slot, places}
+use Rattle.guest_rules.proofs.WantedTags.{IsWanted, is_wanted, sync-file}
+use Rattle.guest_rules.proofs.FileSizes.{file_pages-some}
 use Rattle.guest_rules.proofs.CaseFill.{case_fill, case_begin}
+use Rattle.guest_rules.proofs.CaseSync.{case_sync, case_write_back}
 use Rattle.guest_rules.proofs.CaseUse.{case_use}
 use Rattle.guest_rules.proofs.CaseEntry.{case_load, case_store}
+use Rattle.guest_rules.proofs.Placed.{pin-found, pin-reaches}
 
 -- the tag that is wanted is a file's page
 wanted : (state : FlatState) (g : GuestState) (v : StorageView) (d : DiskView) (cpu : ℕ) (op : Op) (tag : Tag) → FitAt state g v d → Proceeds g cpu op tag → IsWanted g.parts tag
@@ -115,6 +118,16 @@ case_store_found state g v w d e cpu number off bytes None h t f starts none run
 case_store_found state g v w d e cpu number off bytes (Some slot) h t f starts found run =
     case_store_entry state g v w d e cpu number off bytes slot (entry_at g.parts.maps slot (off / PAGE)) h t f (store_reaches state g v d cpu number off bytes slot f starts found) refl run
 
+-- a pin or an unpin
+case_placed : (state : FlatState) (g : GuestState) (v w : StorageView) (d e : DiskView) (cpu : ℕ) (pins : Bool) (number index : ℕ) (found : Option ℕ) (h : GuestState) (t : Turn)
+    → FitAt state g v d → Starts g cpu (pin_op pins number index) → find_slot g.parts.maps (process_of g.plan cpu) number ≡ found
+    → Seen {A = GuestState × Turn} (start_placed g cpu (pin_op pins number index) index found) v d (h, t) w e → TurnCase g cpu v d h t w e
+case_placed state g v w d e cpu pins number index None h t f starts none run = absurd (pin-found g cpu pins number index starts none)
+case_placed state g v w d e cpu pins number index (Some slot) h t f starts found run =
+    let k = pin-reaches g cpu pins number index slot starts found in
+    let p : Proceeds g cpu (pin_op pins number index) k.tag = record { starts = starts; wants = k.wants; uses = places pins number index slot refl found } in
+    case_tagged state g v w d e cpu (pin_op pins number index) k.tag h t f p (subst (λ q. Seen {A = GuestState × Turn} (start_at g cpu (pin_op pins number index) q) v d (h, t) w e) k.shown run)
+
 -- a new mapping
 case_map : (state : FlatState) (g : GuestState) (v w : StorageView) (d e : DiskView) (cpu number file first count : ℕ) (writable : Bool) (free : Option ℕ) (h : GuestState) (t : Turn)
     → FitAt state g v d → Starts g cpu (MapFile number file first count writable) → free_slot g.parts.maps ≡ free
@@ -128,12 +141,23 @@ case_accepted : (state : FlatState) (g : GuestState) (v w : StorageView) (d e : 
 case_accepted state g v w d e cpu (Read file off len) h t f starts built run =
     let p : Proceeds g cpu (Read file off len) (File file (off / PAGE)) = record { starts = starts; wants = refl; uses = reads file off len refl refl } in
     case_tagged state g v w d e cpu (Read file off len) (File file (off / PAGE)) h t f p run
+case_accepted state g v w d e cpu (Write file off bytes) h t f starts built run =
+    let p : Proceeds g cpu (Write file off bytes) (File file (off / PAGE)) = record { starts = starts; wants = refl; uses = overwrites file off bytes refl refl } in
+    case_tagged state g v w d e cpu (Write file off bytes) (File file (off / PAGE)) h t f p run
 case_accepted state g v w d e cpu (MapFile number file first count writable) h t f starts built run =
     case_map state g v w d e cpu number file first count writable (free_slot g.parts.maps) h t f starts refl run
 case_accepted state g v w d e cpu (Load number off len) h t f starts built run =
     case_load_found state g v w d e cpu number off len (find_slot g.parts.maps (process_of g.plan cpu) number) h t f starts refl run
 case_accepted state g v w d e cpu (Store number off bytes) h t f starts built run =
     case_store_found state g v w d e cpu number off bytes (find_slot g.parts.maps (process_of g.plan cpu) number) h t f starts refl run
+case_accepted state g v w d e cpu (Pin number index) h t f starts built run =
+    case_placed state g v w d e cpu true number index (find_slot g.parts.maps (process_of g.plan cpu) number) h t f starts refl run
+case_accepted state g v w d e cpu (Unpin number index) h t f starts built run =
+    case_placed state g v w d e cpu false number index (find_slot g.parts.maps (process_of g.plan cpu) number) h t f starts refl run
+case_accepted state g v w d e cpu (Sync file) h t f starts built run =
+    let below = sync-file g (process_of g.plan cpu) file starts.accepted in
+    let its : Syncs g cpu file 0 = record { has = starts.has; looks = inl (starts.start, refl); file_below = below; within = file_pages-some g.plan.files file f.sizes.range.files.each below } in
+    was_sync file 0 (case_sync state g v w d e cpu file 0 h t f its run)
 case_accepted state g v w d e cpu op h t f starts built run = absurd built
 
 case_refused : (state : FlatState) (g : GuestState) (v w : StorageView) (d e : DiskView) (cpu : ℕ) (op : Op) (refusal : Option FlatRefusal) (h : GuestState) (t : Turn)
@@ -144,6 +168,27 @@ case_refused state g v w d e cpu op (Some refusal) h t f has built phase refused
 case_refused state g v w d e cpu op None h t f has built phase accepted run =
     case_accepted state g v w d e cpu op h t f (record { has = has; start = phase; accepted = accepted }) built run
 
+-- a sync that is at a page of its file
+case_at_sync : (state : FlatState) (g : GuestState) (v w : StorageView) (d e : DiskView) (cpu : ℕ) (op : Op) (index : ℕ) (h : GuestState) (t : Turn)
+    → FitAt state g v d → Has g cpu op → (processor_at g cpu).phase ≡ AtSync index
+    → Seen {A = GuestState × Turn} (sync_turn g cpu op index) v d (h, t) w e → TurnCase g cpu v d h t w e
+case_at_sync state g v w d e cpu op index h t f has phase run =
+    let (file, k) = f.locks.syncing cpu index phase in
+    let both : Some op ≡ Some (Sync file) = sym has.command ∙ k.command in
+    let same : op ≡ Sync file = cc in
+    let its : Syncs g cpu file index = record { has = record { below = has.below; command = k.command }; looks = inr phase; file_below = k.file_below; within = k.within } in
+    was_sync file index (case_sync state g v w d e cpu file index h t f its (subst (λ q. Seen {A = GuestState × Turn} (sync_turn g cpu q index) v d (h, t) w e) same run))
+
+-- or writes one back
+case_writing : (state : FlatState) (g : GuestState) (v w : StorageView) (d e : DiskView) (cpu : ℕ) (op : Op) (index page : ℕ) (h : GuestState) (t : Turn)
+    → FitAt state g v d → Has g cpu op → (processor_at g cpu).phase ≡ SyncWrite index page
+    → Seen {A = GuestState × Turn} (write_back_turn g cpu op index page) v d (h, t) w e → TurnCase g cpu v d h t w e
+case_writing state g v w d e cpu op index page h t f has phase run =
+    let k = f.locks.writing cpu index page phase in
+    let both : Some op ≡ Some (Sync k.file) = sym has.command ∙ k.syncing.command in
+    let same : op ≡ Sync k.file = cc in
+    was_sync k.file index (case_write_back state g v w d e cpu index page h t f k phase (subst (λ q. Seen {A = GuestState × Turn} (write_back_turn g cpu q index page) v d (h, t) w e) same run))
+
 case_in : (state : FlatState) (g : GuestState) (v w : StorageView) (d e : DiskView) (cpu : ℕ) (op : Op) (phase : Phase) (h : GuestState) (t : Turn)
     → FitAt state g v d → Has g cpu op → IsBuiltOp op → (processor_at g cpu).phase ≡ phase
     → Seen {A = GuestState × Turn} (turn_in g cpu op phase) v d (h, t) w e → TurnCase g cpu v d h t w e
@@ -151,6 +196,8 @@ unfolding start_turn
 case_in state g v w d e cpu op Start h t f has built phase run =
     case_refused state g v w d e cpu op (refusal_in g (process_of g.plan cpu) op) h t f has built phase refl run
 case_in state g v w d e cpu op (Fill page) h t f has built phase run = case_fill state g v w d e cpu op page h t f has phase run
+case_in state g v w d e cpu op (AtSync index) h t f has built phase run = case_at_sync state g v w d e cpu op index h t f has phase run
+case_in state g v w d e cpu op (SyncWrite index page) h t f has built phase run = case_writing state g v w d e cpu op index page h t f has phase run
 
 case_on : (state : FlatState) (g : GuestState) (v w : StorageView) (d e : DiskView) (cpu : ℕ) (op : Option Op) (h : GuestState) (t : Turn)
     → FitAt state g v d → cpu < length g.processors → command_of g.plan cpu (processor_at g cpu).place ≡ op

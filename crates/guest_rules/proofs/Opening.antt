@@ -23,15 +23,16 @@ use Rattle.guest_pages.specs.PagesView.{free_info, AreDistinct}
 use Rattle.guest_cache.specs.CacheView.{IsTag}
 use Rattle.guest_cache.specs.CacheLaws.{IsCache-opening, page_of-opening}
 use Rattle.guest_rules.specs.declared.parts.Parts.{Parts}
-use Rattle.guest_rules.specs.declared.processor.Phase.TheVariants.{Start, Fill}
+use Rattle.guest_rules.specs.declared.processor.Phase.TheVariants.{Start, Fill, Sync as AtSync, SyncWrite}
 use Rattle.guest_rules.specs.declared.processor.Processor.{Processor}
 use Rattle.guest_rules.specs.GuestState.{at_start, processor_at, opening_guest}
 use Rattle.guest_rules.specs.Built.{GuestIsBuilt}
 use Rattle.guest_rules.specs.Fresh.{AreFresh, fresh_value}
 use Rattle.guest_rules.specs.Fit.{PagesFit, LocksFit, FlatFit, JournalFit, FaultsFit, Fit, backing, current_at, one_if_lost}
-use Rattle.guest_rules.proofs.Faults.{over_pages-le}
-use Rattle.guest_rules.proofs.PageFits.{EachPageFits, PageFits-free, PinsFit-from, HintsFit-from, ContentsFit-from}
-use Rattle.guest_rules.proofs.OpeningMaps.{SlotsFit-opening, EntriesFit-opening, info-opening}
+use Rattle.guest_rules.proofs.Faults.{sum_below-le}
+use Rattle.guest_rules.proofs.PageFits.{EachPageFits, PageFits-free, HintsFit-from, ContentsFit-from}
+use Rattle.guest_rules.proofs.PinsKept.{PinsFit-from}
+use Rattle.guest_rules.proofs.OpeningMaps.{SlotsFit-opening, EntriesFit-opening, PinsStand-opening, info-opening}
 use Rattle.guest_rules.proofs.OpeningFiles.{planned_pages, opening-page, opening-lengths}
 
 -- a list of one value, read at that value as default
@@ -70,6 +71,8 @@ LocksFit-opening : (plan : GuestPlan) → LocksFit (opening_guest plan)
 LocksFit-opening plan = record {
   stale_clean = λ page u. ap (λ (i : PageInfo). i.dirty) (info-opening plan.pages page);
   filling = λ cpu page phase. let bad : Start ≡ Fill page = ap (λ (p : Processor). p.phase) (sym (processor-opening plan cpu)) ∙ phase in absurd cc;
+  syncing = λ cpu index phase. let bad : Start ≡ AtSync index = ap (λ (p : Processor). p.phase) (sym (processor-opening plan cpu)) ∙ phase in absurd cc;
+  writing = λ cpu index page phase. let bad : Start ≡ SyncWrite index page = ap (λ (p : Processor). p.phase) (sym (processor-opening plan cpu)) ∙ phase in absurd cc;
   locked = λ cpu page owner. let bad : None ≡ Some cpu = ap (λ (i : PageInfo). i.owner) (sym (info-opening plan.pages page)) ∙ owner in absurd cc;
   stale = λ page tag some none. let bad : None ≡ Some tag = ap (λ (i : PageInfo). i.tag) (sym (info-opening plan.pages page)) ∙ some in absurd cc;
 }
@@ -91,7 +94,7 @@ JournalFit-opening plan = record {
 
 FaultsFit-opening : (plan : GuestPlan) (v : StorageView) → ((page : ℕ) → page < v.pages → v.values page ≡ fresh_value) → FaultsFit (opening_guest plan).parts v
 FaultsFit-opening plan v fresh =
-    let sums = over_pages-le (λ page. one_if_lost (v.values page)) (λ page. 0) (λ page. (v.values page).count) (λ page. 0) v.pages (λ page below. subst (λ x. one_if_lost x + 0 ≤ x.count + 0) (sym (fresh page below)) (omega arith)) in
+    let sums = sum_below-le (λ page. one_if_lost (v.values page)) (λ page. 0) (λ page. (v.values page).count) (λ page. 0) v.pages (λ page below. subst (λ x. one_if_lost x + 0 ≤ x.count + 0) (sym (fresh page below)) (omega arith)) in
     omega (arith, sums)
 
 pub Fit-opening : (plan : GuestPlan) (v : StorageView) (d : DiskView) → GuestInRange plan → GuestIsBuilt plan → AreFresh plan v d → Fit (opening_guest plan) v d
@@ -110,7 +113,7 @@ Fit-opening plan v d range built fresh = record {
   pages = PagesFit-opening plan;
   slots = SlotsFit-opening plan;
   entries = EntriesFit-opening plan;
-  pins = PinsFit-from parts v d fits;
+  pins = PinsFit-from parts v d (PinsStand-opening plan) fits;
   locks = LocksFit-opening plan;
   hints = HintsFit-from parts v d fresh.none_held fits;
   contents = ContentsFit-from parts v d fresh.tells (disk_of plan.files plan.swap) fresh.blocks blocks fits;

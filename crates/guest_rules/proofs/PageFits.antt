@@ -18,7 +18,6 @@ use Rattle.guest_rules.specs.Fit.{PinsFit, HintsFit, ContentsFit, backing}
 use Rattle.guest_rules.proofs.ValueLaws.{hint-free, hint-tagged, may-usage, may-unchanged}
 
 pub record PageFits (cache : CacheView) (d : DiskView) (info : PageInfo) (value : PageValue) : Type 0 where
-  pub unpinned : info.pins ≡ 0
   pub of_files : (tag : Tag) → info.tag ≡ Some tag → (file : ℕ) × (index : ℕ) × (tag ≡ File file index)
   pub is_value : IsValue value
   pub hinted : value.usage ≡ hint info
@@ -30,7 +29,6 @@ pub record PageFits (cache : CacheView) (d : DiskView) (info : PageInfo) (value 
 -- the host may move the page
 pub PageFits-may : (cache : CacheView) (d : DiskView) (info : PageInfo) (x y : PageValue) → PageFits cache d info x → MayBecome x y → PageFits cache d info y
 PageFits-may cache d info x y s may = record {
-  unpinned = s.unpinned;
   of_files = s.of_files;
   is_value = MayBecome-is_value x y s.is_value may;
   hinted = may-usage x y may ∙ s.hinted;
@@ -60,7 +58,6 @@ backing-same old new d e (Anon slot index) files blocks = refl
 
 pub PageFits-same : (old new : CacheView) (d e : DiskView) (info : PageInfo) (x : PageValue) → new.files ≡ old.files → e.blocks ≡ d.blocks → PageFits old d info x → PageFits new e info x
 PageFits-same old new d e info x files blocks s = record {
-  unpinned = s.unpinned;
   of_files = s.of_files;
   is_value = s.is_value;
   hinted = s.hinted;
@@ -72,7 +69,6 @@ PageFits-same old new d e info x files blocks s = record {
 -- a free page
 pub PageFits-free : (cache : CacheView) (d : DiskView) (x : PageValue) → x.usage ≡ U → x.changed ≡ false → StandsWith x.contents U false → PageFits cache d free_info x
 PageFits-free cache d x usage changed stands = record {
-  unpinned = refl;
   of_files = λ tag t. absurd cc;
   is_value = rw (usage, changed) stands;
   hinted = usage ∙ sym hint-free;
@@ -90,7 +86,6 @@ pub EachPageFits-from : (parts : Parts) (v : StorageView) (d : DiskView) → len
 EachPageFits-from parts v d size pins hints contents = record {
   size = size;
   each = λ page below. record {
-    unpinned = pins.unpinned page;
     of_files = pins.of_files page;
     is_value = hints.values page below;
     hinted = hints.hints page below;
@@ -106,12 +101,6 @@ every_info Fits pages count size free each page = elim (cases_lt page count) [
   | inl below ↦ each page below
   | inr past ↦ subst Fits (sym (get_or_past pages.infos page free_info (omega (arith, size)))) free
 ]
-
-pub PinsFit-from : (parts : Parts) (v : StorageView) (d : DiskView) → EachPageFits parts v d → PinsFit parts
-PinsFit-from parts v d fits = record {
-  unpinned = every_info (λ info. info.pins ≡ 0) parts.pages v.pages fits.size refl (λ page below. (fits.each page below).unpinned);
-  of_files = every_info (λ info. (tag : Tag) → info.tag ≡ Some tag → (file : ℕ) × (index : ℕ) × (tag ≡ File file index)) parts.pages v.pages fits.size (λ tag t. absurd cc) (λ page below. (fits.each page below).of_files);
-}
 
 pub HintsFit-from : (parts : Parts) (v : StorageView) (d : DiskView) → v.held ≡ None → EachPageFits parts v d → HintsFit parts v
 HintsFit-from parts v d none fits = record {

@@ -8,7 +8,7 @@ use Rattle.cmm_types.specs.declared.page.Tag.TheVariants.{File}
 use Rattle.cmm_types.specs.declared.plan.TheConstants.{MAX_LIVE_MAPPINGS, MAX_MAPPING_SLOTS}
 use Rattle.cmm_types.specs.declared.command.TheConstants.{MAX_MAPPING_PAGES}
 use Rattle.cmm_types.specs.declared.command.Op.{Op}
-use Rattle.cmm_types.specs.declared.command.Op.TheVariants.{Read, MapFile, Load, Store}
+use Rattle.cmm_types.specs.declared.command.Op.TheVariants.{Read, Write, MapFile, Load, Store}
 use Rattle.cmm_types.specs.declared.command.FlatRefusal.TheVariants.{OutOfRange, TooManyMaps}
 use Rattle.cmm_io.specs.DiskView.{DiskView}
 use Rattle.cmm_flat.specs.State.{FlatState}
@@ -20,7 +20,7 @@ use Rattle.guest_maps.specs.MapsView.{slot_at, find_slot, free_slot, live_slots,
 use Rattle.guest_rules.specs.GuestState.{GuestState, processor_at}
 use Rattle.guest_rules.specs.Turns.{has_bytes, mapping_pages, refusal_at, refusal_of_new}
 use Rattle.guest_rules.specs.Fit.{FitAt}
-use Rattle.guest_rules.proofs.TurnCases.{HasPage, Starts, Wants, Maps, CanBeSet}
+use Rattle.guest_rules.proofs.TurnCases.{Starts, Wants, Maps, CanBeSet, pin_op, ShowsPage}
 use Rattle.guest_rules.proofs.MapsFound.{found_slot, none_free, all_counted, tag_at-place}
 use Rattle.guest_rules.proofs.PageFits.{tagged-below}
 use Rattle.guest_rules.proofs.Commands.{command-in_range}
@@ -33,8 +33,12 @@ within_pages off len pages h some = omega (arith, h, some)
 pub data Uses (g : GuestState) (cpu : ℕ) (op : Op) (tag : Tag) : Type 0 where
   -- it reads the tag's page
   reads : (file off len : ℕ) → op ≡ Read file off len → tag ≡ File file (off / PAGE) → Uses g cpu op tag
+  -- it writes to the tag's page
+  overwrites : (file off : ℕ) (bytes : List ℕ) → op ≡ Write file off bytes → tag ≡ File file (off / PAGE) → Uses g cpu op tag
   -- it sets the entry that is to show the tag's page
   sets : (writes : Bool) (slot off : ℕ) → Maps g cpu op writes slot off → CanBeSet (entry_at g.parts.maps slot (off / PAGE)) writes → Uses g cpu op tag
+  -- it pins the place of the tag, or unpins it
+  places : (pins : Bool) (number index slot : ℕ) → op ≡ pin_op pins number index → find_slot g.parts.maps (process_of g.plan cpu) number ≡ Some slot → Uses g cpu op tag
 
 -- an accepted command, and the tag of the page that it needs
 pub record Proceeds (g : GuestState) (cpu : ℕ) (op : Op) (tag : Tag) : Type 0 where
@@ -81,21 +85,15 @@ store_reaches state g v d cpu number off bytes slot f starts found =
     let k = reached state g v d (process_of g.plan cpu) number true off (length bytes) slot f found starts.accepted range.1.some in
     record { starts = starts; maps = (refl, found, refl); tag = k.tag; shown = k.shown; wants = rw found k.shown; within = k.within }
 
--- the page of the entry that a load or store finds has the place's tag, and is unlocked
+-- the page of the entry that a load or store finds has the place's tag, and is up to date
 pub entry_page : (state : FlatState) (g : GuestState) (v : StorageView) (d : DiskView) (cpu : ℕ) (op : Op) (writes : Bool) (slot off : ℕ) (pte : Pte) → FitAt state g v d
-    → (k : Reaches g cpu op writes slot off) → entry_at g.parts.maps slot (off / PAGE) ≡ Some pte → HasPage g k.tag pte.page
+    → (k : Reaches g cpu op writes slot off) → entry_at g.parts.maps slot (off / PAGE) ≡ Some pte → ShowsPage g k.tag pte.page
 entry_page state g v d cpu op writes slot off pte f k at =
     let is = f.entries.entry slot (off / PAGE) pte k.within at in
     let both : Some is.tag ≡ Some k.tag = sym is.mapped ∙ k.shown in
     let same : is.tag ≡ k.tag = cc in
     let tagged : (info_at g.parts.pages pte.page).tag ≡ Some k.tag = is.tagged ∙ ap Some same in
-    record { below = tagged-below g.parts.pages pte.page k.tag tagged; tagged = tagged; unlocked = of (info_at g.parts.pages pte.page).owner refl is.uptodate }
-  where
-    of : (owner : Option ℕ) → (info_at g.parts.pages pte.page).owner ≡ owner → (info_at g.parts.pages pte.page).uptodate ≡ true → (info_at g.parts.pages pte.page).owner ≡ None
-    of None e fresh = e
-    of (Some other) e fresh =
-        let filling = (f.locks.filling other pte.page (f.locks.locked other pte.page e)).1 in
-        let bad : true ≡ false = sym fresh ∙ filling.stale in absurd cc
+    record { below = tagged-below g.parts.pages pte.page k.tag tagged; tagged = tagged; uptodate = is.uptodate }
 
 fewer : (within : Bool) (live : ℕ) → (if within then (if nat_le MAX_LIVE_MAPPINGS live then Some TooManyMaps else None) else Some OutOfRange) ≡ None → live < MAX_LIVE_MAPPINGS
 fewer within live e = grind (arith, nat_tests)

@@ -1,15 +1,17 @@
 -- What fit gives the calls of the code of a turn: what each of them needs of its numbers.
-use Rattle.std.specs.Prelude.{◌≡◌, ◌<◌, ◌≤◌, ℕ, Bool, ◌*◌, ◌/◌, zero, suc, List, [], ◌∷◌, length, sum, sum_by, get_or, All, Contains, Option, None, Some, IfSome, IsSome, refl}
+use Rattle.std.specs.Prelude.{◌≡◌, ◌<◌, ◌≤◌, ℕ, Bool, true, false, ◌*◌, ◌/◌, zero, suc, List, [], ◌∷◌, length, sum, sum_by, get_or, All, Contains, Option, None, Some, IfSome, IsSome, refl}
 use Rattle.std.proofs.Common.{arith, ap, sym, ◌∙◌}
 use Rattle.std.proofs.lemmas.List.Sums.{sum-map, sum_by-cons, sum_by-le, count_by-le-length}
 use Rattle.cmm_types.specs.declared.page.TheConstants.{PAGE}
+use Rattle.cmm_types.specs.declared.page.Usage.TheVariants.{S}
 use Rattle.cmm_types.specs.declared.page.Tag.{Tag}
-use Rattle.cmm_types.specs.declared.plan.TheConstants.{MAX_COMMANDS, MAX_MAPPING_SLOTS, MAX_PROCESSES}
+use Rattle.cmm_types.specs.declared.page.Tag.TheVariants.{File}
+use Rattle.cmm_types.specs.declared.plan.TheConstants.{MAX_COMMANDS, MAX_FILE_PAGES, MAX_MAPPING_SLOTS, MAX_PROCESSES}
 use Rattle.cmm_types.specs.declared.plan.CpuPlan.{CpuPlan}
 use Rattle.cmm_types.specs.declared.plan.GuestPlan.{GuestPlan}
 use Rattle.cmm_types.specs.declared.command.TheConstants.{MAX_MAPPING_NUMBERS, MAX_MAPPING_PAGES}
 use Rattle.cmm_types.specs.declared.command.Op.{Op}
-use Rattle.cmm_types.specs.declared.command.Op.TheVariants.{Read, MapFile, Load, Store}
+use Rattle.cmm_types.specs.declared.command.Op.TheVariants.{Read, MapFile, Load, Store, Pin, Unpin, Sync}
 use Rattle.cmm_types.specs.InRange.{GuestInRange, ArePages, IsPiece, file_pages_of}
 use Rattle.cmm_io.specs.DiskView.{DiskView}
 use Rattle.cmm_flat.specs.Legal.{command_of, process_of, flat_of}
@@ -18,17 +20,23 @@ use Rattle.guest_pages.specs.PagesView.{info_at}
 use Rattle.guest_cache.specs.CacheView.{IsTag, page_of, backing_of}
 use Rattle.guest_cache.specs.CacheLaws.{backing_of-below}
 use Rattle.guest_maps.specs.declared.slot.Pte.{Pte}
-use Rattle.guest_maps.specs.MapsView.{IsPlace, free_slot, entry_at, stores_to}
-use Rattle.guest_rules.specs.declared.processor.Phase.TheVariants.{Fill}
+use Rattle.guest_maps.specs.MapsView.{IsPlace, free_slot, find_slot, entry_at, stores_to}
+use Rattle.guest_rules.specs.declared.processor.Phase.TheVariants.{Fill, SyncWrite}
 use Rattle.guest_rules.specs.declared.processor.Processor.{Processor}
 use Rattle.guest_rules.specs.GuestState.{GuestState, processor_at, at_start}
 use Rattle.guest_rules.specs.Rows.{backing_at}
-use Rattle.guest_rules.specs.Fit.{SizesFit, Fit, commands_of, all_commands}
-use Rattle.guest_rules.proofs.TurnCases.{Has, Starts}
+use Rattle.guest_rules.specs.Fit.{SizesFit, Fit, commands_of, all_commands, IsSyncing}
+use Rattle.guest_rules.proofs.TurnCases.{Has, Starts, HasItsTag, pin_op}
 use Rattle.guest_rules.proofs.Commands.{command-below, commands_of-le, command-in_range, process_of-below}
 use Rattle.guest_rules.proofs.PageFits.{tagged-below}
 use Rattle.guest_rules.proofs.EntryLaws.{place-tagged}
-use Rattle.guest_rules.proofs.Ready.{below_view}
+use Rattle.guest_rules.proofs.PinLaws.{pins_within-some, pins_within-most}
+use Rattle.guest_rules.proofs.SlotsKept.{slot-below}
+use Rattle.guest_rules.proofs.WantedTags.{tag_in-Some, is_wanted, sync-file, planned-tag}
+use Rattle.guest_rules.proofs.Placed.{pin-place}
+use Rattle.guest_rules.proofs.Ready.{below_view, can_be_written}
+use Rattle.guest_rules.specs.Turns.{file_pages}
+use Rattle.guest_rules.proofs.FileSizes.{file_pages-some, file_pages-most}
 use Rattle.guest_rules.proofs.Reached.{Reaches, entry_page, has_free_slot}
 
 -- ---- pages
@@ -65,6 +73,14 @@ found-usable g v d page tag f is found = tagged-usable g v d page tag f (f.pages
 pub filling-usable : (g : GuestState) (v : StorageView) (d : DiskView) (cpu page : ℕ) → Fit g v d → (processor_at g cpu).phase ≡ Fill page → CanBeUsed g v page
 filling-usable g v d cpu page f phase = let k = (f.locks.filling cpu page phase).1 in tagged-usable g v d page k.tag f k.tagged
 
+-- a page that a processor writes back
+pub writing-usable : (g : GuestState) (v : StorageView) (d : DiskView) (cpu index page : ℕ) → Fit g v d → (processor_at g cpu).phase ≡ SyncWrite index page → CanBeUsed g v page
+writing-usable g v d cpu index page f phase = let k = f.locks.writing cpu index page phase in tagged-usable g v d page (File k.file index) f k.tagged
+
+-- it is stable
+pub writing-stable : (g : GuestState) (v : StorageView) (d : DiskView) (cpu index page : ℕ) → Fit g v d → (processor_at g cpu).phase ≡ SyncWrite index page → (v.values page).usage ≡ S
+writing-stable g v d cpu index page f phase = (can_be_written (flat_of g.plan g.journal) g v d cpu index page f (f.locks.writing cpu index page phase)).usage
+
 -- the page of the entry that a load or store finds
 pub entry-usable : (g : GuestState) (v : StorageView) (d : DiskView) (cpu : ℕ) (op : Op) (writes : Bool) (slot off : ℕ) (pte : Pte) → Fit g v d → Reaches g cpu op writes slot off → entry_at g.parts.maps slot (off / PAGE) ≡ Some pte → CanBeUsed g v pte.page
 entry-usable g v d cpu op writes slot off pte f k entry =
@@ -77,7 +93,8 @@ free-below g v d page f there = (f.pages.free page there).0
 
 -- ---- blocks
 
-blocks-most : (g : GuestState) (v : StorageView) (d : DiskView) → SizesFit g v d → sum g.parts.cache.files ≤ d.count
+-- the files' pages have their blocks on the disk
+pub blocks-most : (g : GuestState) (v : StorageView) (d : DiskView) → SizesFit g v d → sum g.parts.cache.files ≤ d.count
 blocks-most g v d f =
     let all : sum g.parts.cache.files ≡ file_pages_of g.plan.files = ap sum f.files ∙ sum-map (λ file. file.pages) g.plan.files in
     omega (arith, all, f.blocks)
@@ -128,6 +145,20 @@ map-free g v d cpu number file first count writable f starts = of (free_slot g.p
     of None e = absurd (has_free_slot (flat_of g.plan g.journal) g v d cpu number file first count writable f starts e)
     of (Some slot) e = refl
 
+-- a sync that isn't refused begins with page 0 of its file
+pub sync-starts : (g : GuestState) (v : StorageView) (d : DiskView) (cpu file : ℕ) → Fit g v d → Starts g cpu (Sync file) → IsSyncing g cpu file 0
+sync-starts g v d cpu file f starts =
+    let below = sync-file g (process_of g.plan cpu) file starts.accepted in
+    record { cpu_below = starts.has.below; command = starts.has.command; file_below = below; within = file_pages-some g.plan.files file f.sizes.range.files.each below }
+
+-- each page of its file has a tag
+pub syncing-tag : (g : GuestState) (v : StorageView) (d : DiskView) (cpu file index : ℕ) → Fit g v d → IsSyncing g cpu file index → IsTag g.parts.cache (File file index)
+syncing-tag g v d cpu file index f k = planned-tag g v d file index f.sizes k.file_below k.within
+
+-- and there are at most so many
+pub file-few : (g : GuestState) (v : StorageView) (d : DiskView) (file : ℕ) → Fit g v d → file_pages g.plan.files file ≤ MAX_FILE_PAGES
+file-few g v d file f = file_pages-most g.plan.files file f.sizes.range.files.each
+
 -- ---- entries
 
 -- the place of a load or store that is accepted is one
@@ -141,6 +172,32 @@ page-shown g v d page f below = rw f.slots.pages below
 -- a page has at most as many writers as there are entries
 pub writers-most : (g : GuestState) (v : StorageView) (d : DiskView) (page : ℕ) → Fit g v d → (info_at g.parts.pages page).writers ≤ MAX_MAPPING_SLOTS * MAX_MAPPING_PAGES
 writers-most g v d page f = omega (arith, f.entries.writers page, count_by-le-length (stores_to page) g.parts.maps.entries, f.slots.entries)
+
+-- ---- pins
+
+-- the numbers of a pin or an unpin
+pub pin-piece : (g : GuestState) (v : StorageView) (d : DiskView) (cpu : ℕ) (pins : Bool) (number index : ℕ) → Fit g v d → Has g cpu (pin_op pins number index) → (number < MAX_MAPPING_NUMBERS) × (index < MAX_MAPPING_PAGES)
+pin-piece g v d cpu true number index f has = command-in_range g.plan cpu (processor_at g cpu).place (Pin number index) f.sizes.range has.command
+pin-piece g v d cpu false number index f has = command-in_range g.plan cpu (processor_at g cpu).place (Unpin number index) f.sizes.range has.command
+
+-- a page has at most as many pins as there are places
+pub pins-most : (g : GuestState) (v : StorageView) (d : DiskView) (page : ℕ) → Fit g v d → (info_at g.parts.pages page).pins ≤ MAX_MAPPING_SLOTS * MAX_MAPPING_PAGES
+pins-most g v d page f = of (info_at g.parts.pages page).tag refl
+  where
+    of : (o : Option Tag) → (info_at g.parts.pages page).tag ≡ o → (info_at g.parts.pages page).pins ≤ MAX_MAPPING_SLOTS * MAX_MAPPING_PAGES
+    of None e = rw (f.pages.bare page e) (omega arith)
+    of (Some tag) e = omega (arith, f.pins.counted page tag e, pins_within-most g.parts.maps tag (length g.parts.maps.slots) MAX_MAPPING_PAGES, f.slots.slots)
+
+-- and the page of an unpin has one
+pub unpin-some : (g : GuestState) (v : StorageView) (d : DiskView) (cpu number index page : ℕ) → Fit g v d → Starts g cpu (Unpin number index) → HasItsTag g cpu (Unpin number index) page → 1 ≤ (info_at g.parts.pages page).pins
+unpin-some g v d cpu number index page f starts has =
+    let tag = has.tag in
+    let its = tag_in-Some g.parts (find_slot g.parts.maps (process_of g.plan cpu) number) index tag has.wants in
+    let k = pin-place g cpu false number index its.0 starts its.1 in
+    let is = (is_wanted (flat_of g.plan g.journal) g v d cpu (Unpin number index) tag f.sizes f.slots starts has.wants).is_tag in
+    let few : index < MAX_MAPPING_PAGES = omega (arith, k.below, (f.slots.shown its.0 k.mapping k.at).0) in
+    let some = pins_within-some g.parts.maps tag (length g.parts.maps.slots) MAX_MAPPING_PAGES its.0 index (slot-below g.parts.maps its.0 k.mapping k.at) few k.was its.2 in
+    omega (arith, f.pins.counted page tag (f.pages.found page tag is has.found).1, some)
 
 -- ---- places and the journal
 

@@ -3,7 +3,7 @@ use Rattle.std.proofs.Common.{◌≡◌, ◌/◌, ◌%◌, ℕ, List, take, drop
 use Rattle.cmm_types.specs.declared.page.TheConstants.{PAGE}
 use Rattle.cmm_types.specs.declared.page.Tag.TheVariants.{File}
 use Rattle.cmm_types.specs.declared.command.Op.{Op}
-use Rattle.cmm_types.specs.declared.command.Op.TheVariants.{Read, Load, Store}
+use Rattle.cmm_types.specs.declared.command.Op.TheVariants.{Read, Write, Load, Store, Pin}
 use Rattle.cmm_types.specs.declared.command.Reply.{Reply}
 use Rattle.cmm_types.specs.declared.command.Reply.TheVariants.{Bytes as BytesReply, Refused, Fail}
 use Rattle.cmm_types.specs.declared.command.Cause.{Cause}
@@ -71,15 +71,21 @@ Fit-read g v d w e cpu file off len page found all after f starts has back may a
 -- a command that needs a page may fail by the disk or the pager
 needs-fails : (op : Op) → NeedsPage op → CanFail op
 needs-fails (Read file off len) needs = tt
+needs-fails (Write file off bytes) needs = tt
 needs-fails (Load number off len) needs = tt
 needs-fails (Store number off bytes) needs = tt
+needs-fails (Pin number index) needs = tt
 needs-fails op needs = absurd needs
 
-failing : (g : GuestState) (cpu : ℕ) (op : Op) (v : StorageView) (d : DiskView) (w : StorageView) (e : DiskView) (cause : Cause) → NeedsPage op → FillCause cause v d w e → IsReply g.plan (walk_at g) (process_of g.plan cpu) op (Fail cause)
-failing g cpu op v d w e Disk needs h = needs-fails op needs
-failing g cpu op v d w e Paging needs h = needs-fails op needs
-failing g cpu op v d w e (NoPage pinned unslotted) needs h = absurd h
+failing : (g : GuestState) (cpu : ℕ) (op : Op) (v : StorageView) (d : DiskView) (w : StorageView) (e : DiskView) (cause : Cause) → CanFail op → FillCause cause v d w e → IsReply g.plan (walk_at g) (process_of g.plan cpu) op (Fail cause)
+failing g cpu op v d w e Disk can h = can
+failing g cpu op v d w e Paging can h = can
+failing g cpu op v d w e (NoPage pinned unslotted) can h = absurd h
+
+pub Fit-fails : (g : GuestState) (v : StorageView) (d : DiskView) (w : StorageView) (e : DiskView) (x : StorageView) (y : DiskView) (cpu : ℕ) (op : Op) (cause : Cause) → Fit g w e → Has g cpu op → CanFail op
+    → (processor_at g cpu).phase ≡ Start → FillCause cause v d x y → Fit (entered g cpu op (Fail cause)) w e
+Fit-fails g v d w e x y cpu op cause f has can start risen = Fit-entered g w e cpu op (Fail cause) f has.below start has.command (failing g cpu op v d x y cause can risen)
 
 pub Fit-failed : (g : GuestState) (v : StorageView) (d : DiskView) (w : StorageView) (e : DiskView) (x : StorageView) (y : DiskView) (cpu : ℕ) (op : Op) (cause : Cause) → Fit g w e → Has g cpu op → NeedsPage op
     → (processor_at g cpu).phase ≡ Start → FillCause cause v d x y → Fit (entered g cpu op (Fail cause)) w e
-Fit-failed g v d w e x y cpu op cause f has needs start risen = Fit-entered g w e cpu op (Fail cause) f has.below start has.command (failing g cpu op v d x y cause needs risen)
+Fit-failed g v d w e x y cpu op cause f has needs start risen = Fit-fails g v d w e x y cpu op cause f has (needs-fails op needs) start risen

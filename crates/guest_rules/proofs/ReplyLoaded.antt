@@ -11,7 +11,7 @@ use Rattle.cmm_flat.specs.declared.mapping.Mapping.{Mapping}
 use Rattle.cmm_flat.specs.declared.mapping.Shown.TheVariants.{OfFile as FlatFile}
 use Rattle.cmm_flat.specs.Bytes.{bytes_at}
 use Rattle.cmm_flat.specs.State.{FlatState, file_at, mapping_at}
-use Rattle.cmm_flat.specs.Flat.{none_pinned, loaded, on_live}
+use Rattle.cmm_flat.specs.Flat.{loaded, on_live}
 use Rattle.cmm_flat.specs.StepLaws.{step_done}
 use Rattle.cmm_flat.specs.Legal.{process_of, flat_of}
 use Rattle.essa_state.specs.PageValue.{Bytes}
@@ -20,8 +20,8 @@ use Rattle.guest_maps.specs.declared.slot.Shown.{Shown}
 use Rattle.guest_maps.specs.MapsView.{find_slot, entry_at}
 use Rattle.guest_rules.specs.declared.parts.Parts.{Parts}
 use Rattle.guest_rules.specs.GuestState.{GuestState, processor_at, entered}
-use Rattle.guest_rules.specs.Fit.{Fit, SlotsFit, flat_mapping, slot_found}
-use Rattle.guest_rules.proofs.TurnCases.{Starts, HasPage, AllMay}
+use Rattle.guest_rules.specs.Fit.{Fit, SlotsFit, pins_of, flat_mapping, flat_found}
+use Rattle.guest_rules.proofs.TurnCases.{Starts, AllMay, ShowsPage}
 use Rattle.guest_rules.proofs.Commands.{command-in_range}
 use Rattle.guest_rules.proofs.FitMay.{FitAt-may, infos-pages}
 use Rattle.guest_rules.proofs.WantedTags.{ShowsAt, shows_at}
@@ -30,16 +30,16 @@ use Rattle.guest_rules.proofs.FoundBytes.{found-bytes, bytes-in_page}
 use Rattle.guest_rules.proofs.Replies.{Fit-stepped, refused-same}
 
 -- what the flat machine has of a mapping of a file
-abbrev pub file_mapping : (file first : ℕ) → Bool → ℕ → Mapping
-file_mapping file first writable count = record { shown = FlatFile file first writable; pins = none_pinned count }
+abbrev pub file_mapping : (file first : ℕ) → Bool → (pins : List Bool) → Mapping
+file_mapping file first writable pins = record { shown = FlatFile file first writable; pins = pins }
 
 pub flat-mapped : (state : FlatState) (parts : Parts) (process number slot index : ℕ) (tag : Tag) → SlotsFit state parts → find_slot parts.maps process number ≡ Some slot → (s : ShowsAt parts slot index tag)
-    → mapping_at state process number ≡ Some (file_mapping s.file s.first s.writable s.mapping.count)
+    → mapping_at state process number ≡ Some (file_mapping s.file s.first s.writable (pins_of parts.maps slot s.mapping.count))
 flat-mapped state parts process number slot index tag f found s =
     f.flat process number
-    ∙ ap (λ o. flat_mapping (slot_found parts.maps o)) found
-    ∙ ap flat_mapping s.there
-    ∙ ap (λ (shown : Shown). flat_mapping (Some (record s.mapping { shown = shown }))) s.shown
+    ∙ ap (flat_found parts.maps) found
+    ∙ ap (flat_mapping parts.maps slot) s.there
+    ∙ ap (λ (shown : Shown). flat_mapping parts.maps slot (Some (record s.mapping { shown = shown }))) s.shown
 
 pub Fit-loaded : (g : GuestState) (v : StorageView) (d : DiskView) (w : StorageView) (e : DiskView) (cpu number off len slot page : ℕ) (writable : Bool) (all : List ℕ) → Fit g v d → Starts g cpu (Load number off len)
     → find_slot g.parts.maps (process_of g.plan cpu) number ≡ Some slot → entry_at g.parts.maps slot (off / PAGE) ≡ Some (record { page = page; writable = writable }) → (w.values page).contents ≡ Bytes all → AllMay v d w e
@@ -62,7 +62,7 @@ Fit-loaded g v d w e cpu number off len slot page writable all f starts found en
     s : ShowsAt g.parts slot (off / PAGE) k.tag
     s = shows_at flat g.parts slot (off / PAGE) k.tag f.slots k.shown
 
-    has : HasPage g k.tag page
+    has : ShowsPage g k.tag page
     has = entry_page flat g v d cpu (Load number off len) false slot off (record { page = page; writable = writable }) f k entry
 
     piece : IsPiece off len
@@ -72,5 +72,5 @@ Fit-loaded g v d w e cpu number off len slot page writable all f starts found en
     same =
         ap (λ b. take len (drop (off % PAGE) b))
         (sym (found-bytes flat g v d page k.tag (w.values page) all s.file (s.first + off / PAGE) f
-        (record { tagged = has.tagged; uptodate = f.locks.stale page k.tag has.tagged has.unlocked; may = may.values page (rw (infos-pages g v d f.sizes) at has.below); are = are }) s.is))
+        (record { tagged = has.tagged; uptodate = has.uptodate; may = may.values page (rw (infos-pages g v d f.sizes) at has.below); are = are }) s.is))
         ∙ bytes-in_page (file_at flat.files s.file) s.first off len piece.within_page

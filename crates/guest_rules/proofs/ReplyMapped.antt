@@ -19,18 +19,19 @@ use Rattle.guest_maps.specs.MapsLaws.{free_slot-is}
 use Rattle.guest_rules.specs.declared.parts.Parts.{Parts}
 use Rattle.guest_rules.specs.GuestState.{GuestState, processor_at, with_parts, entered}
 use Rattle.guest_rules.specs.Turns.{has_bytes, refusal_of_new}
-use Rattle.guest_rules.specs.Fit.{FitAt, Fit, SlotsFit, EntriesFit}
+use Rattle.guest_rules.specs.Fit.{FitAt, Fit, SlotsFit, EntriesFit, PinsFit, IsSyncing}
 use Rattle.guest_rules.proofs.TurnCases.{Starts}
 use Rattle.guest_rules.proofs.Commands.{command-in_range}
 use Rattle.guest_rules.proofs.SlotsKept.{NewMapping, SlotsFit-mapped}
 use Rattle.guest_rules.proofs.EntriesKept.{EntriesFit-new}
+use Rattle.guest_rules.proofs.PinsKept.{PinsFit-new}
 use Rattle.guest_rules.proofs.WantedTags.{has_bytes-file}
 use Rattle.guest_rules.proofs.Replies.{Fit-stepped, refused-same}
 
 -- other mappings alone, and another flat state with the same files
-FitAt-maps : (state later : FlatState) (g : GuestState) (v : StorageView) (d : DiskView) (maps : MapsView) → FitAt state g v d → later.files ≡ state.files → SlotsFit later (record g.parts { maps = maps }) → EntriesFit (record g.parts { maps = maps })
+FitAt-maps : (state later : FlatState) (g : GuestState) (v : StorageView) (d : DiskView) (maps : MapsView) → FitAt state g v d → later.files ≡ state.files → SlotsFit later (record g.parts { maps = maps }) → EntriesFit (record g.parts { maps = maps }) → PinsFit (record g.parts { maps = maps })
     → FitAt later (with_parts g (record g.parts { maps = maps })) v d
-FitAt-maps state later g v d maps f files slots entries = record {
+FitAt-maps state later g v d maps f files slots entries pins = record {
   sizes = record {
     range = f.sizes.range;
     built = f.sizes.built;
@@ -45,12 +46,15 @@ FitAt-maps state later g v d maps f files slots entries = record {
   pages = record { once = f.pages.once; free = f.pages.free; stacked = f.pages.stacked; bare = f.pages.bare; indexed = f.pages.indexed; found = f.pages.found };
   slots = slots;
   entries = entries;
-  pins = record { unpinned = f.pins.unpinned; of_files = f.pins.of_files };
+  pins = pins;
   locks = record {
     stale_clean = f.locks.stale_clean;
     filling = λ q i e.
         let was = f.locks.filling q i e in
         (was.0, record { op = was.1.op; command = was.1.command; needs = was.1.needs; below = was.1.below; owner = was.1.owner; stale = was.1.stale; tag = was.1.tag; tagged = was.1.tagged });
+    syncing = λ q index e. let was = f.locks.syncing q index e in (was.0, syncing q was.0 index was.1);
+    writing = λ q index i e.
+        let was = f.locks.writing q index i e in record { file = was.file; syncing = syncing q was.file index was.syncing; below = was.below; owner = was.owner; tagged = was.tagged; uptodate = was.uptodate };
     locked = f.locks.locked;
     stale = f.locks.stale;
   };
@@ -60,6 +64,9 @@ FitAt-maps state later g v d maps f files slots entries = record {
   journal = record { legal = f.journal.legal; places = f.journal.places; within = f.journal.within; counted = f.journal.counted };
   faults = f.faults;
 }
+  where
+    syncing : (q file index : ℕ) → IsSyncing g q file index → IsSyncing (with_parts g (record g.parts { maps = maps })) q file index
+    syncing q file index was = record { cpu_below = was.cpu_below; command = was.command; file_below = was.file_below; within = was.within }
 
 -- a new mapping that isn't refused
 accepted_new : (g : GuestState) (file first count : ℕ) (o : Option ℕ) → refusal_of_new g file first count o ≡ None → (o ≡ None) × (has_bytes g.plan.files file (PAGE * first) (PAGE * count) ≡ true)
@@ -78,7 +85,8 @@ pub Fit-mapped : (g : GuestState) (v : StorageView) (d : DiskView) (cpu number f
 Fit-mapped g v d cpu number file first count writable slot f starts free =
     Fit-stepped (with_parts g new) v d cpu op Done later
     (FitAt-maps flat later g v d new.maps f refl (SlotsFit-mapped flat g.parts new slot process number file first count writable f.slots fresh refl)
-    (EntriesFit-new g.parts new slot process number count (OfFile file first writable) f.entries (free_slot-is g.parts.maps slot free).1 refl))
+    (EntriesFit-new g.parts new slot process number count (OfFile file first writable) f.entries (free_slot-is g.parts.maps slot free).1 refl)
+    (PinsFit-new flat g.parts new slot process number count (OfFile file first writable) f.pins f.slots (free_slot-is g.parts.maps slot free).1 refl))
     (record { below = starts.has.below; command = starts.has.command }) starts.start
     (step_done flat process op (refused-same g v d cpu op f starts.has ∙ starts.accepted))
   where

@@ -1,20 +1,17 @@
 -- Fit after bytes were stored through an entry.
-use Rattle.std.proofs.Common.{◌≡◌, ◌≢◌, ◌<◌, ◌≤◌, ◌+◌, ◌*◌, ◌/◌, ◌%◌, ℕ, Bool, true, false, if◌then◌else◌, nat_eq, List, length, Some, refl, ap, sym, ◌∙◌, inl, inr, arith}
+use Rattle.std.proofs.Common.{◌≡◌, ◌≢◌, ◌<◌, ◌≤◌, ◌+◌, ◌*◌, ◌/◌, ◌%◌, ℕ, Bool, true, false, if◌then◌else◌, nat_eq, List, length, Some, refl, ap, sym, ◌∙◌, arith}
 use Rattle.std.proofs.lemmas.Bool.{eqb-true, false_from_ne_true}
 use Rattle.cmm_types.specs.declared.page.TheConstants.{PAGE}
 use Rattle.cmm_types.specs.declared.page.Usage.TheVariants.{S, P, V}
 use Rattle.cmm_types.specs.declared.page.Tag.{Tag}
-use Rattle.cmm_types.specs.declared.page.Tag.TheVariants.{File}
 use Rattle.cmm_types.specs.declared.command.Op.{Op}
 use Rattle.cmm_types.specs.declared.command.Op.TheVariants.{Store}
 use Rattle.cmm_types.specs.declared.command.Reply.TheVariants.{Done}
 use Rattle.cmm_types.specs.InRange.{IsPiece}
 use Rattle.cmm_io.specs.DiskView.{DiskView}
 use Rattle.cmm_flat.specs.declared.mapping.Mapping.{Mapping}
-use Rattle.cmm_flat.specs.Bytes.{with_bytes}
 use Rattle.cmm_flat.specs.State.{FlatState, file_at}
 use Rattle.cmm_flat.specs.Flat.{with_file_bytes, stored, on_live}
-use Rattle.cmm_flat.specs.FlatLaws.{lengths-with_file_bytes}
 use Rattle.cmm_flat.specs.StepLaws.{step_done}
 use Rattle.cmm_flat.specs.Legal.{process_of, flat_of}
 use Rattle.essa_state.specs.PageValue.{PageValue, Bytes, MayBecome}
@@ -26,23 +23,17 @@ use Rattle.guest_maps.specs.MapsView.{find_slot, entry_at}
 use Rattle.guest_rules.specs.GuestState.{GuestState, processor_at, entered}
 use Rattle.guest_rules.specs.Hint.{hint, can_be_fetched_again}
 use Rattle.guest_rules.specs.Turns.{refusal_at}
-use Rattle.guest_rules.specs.Fit.{FitAt, Fit, FlatFit, current, current_at, current_bytes, backing}
-use Rattle.guest_rules.proofs.TurnCases.{Starts, HasPage, GivenBack}
-use Rattle.guest_rules.proofs.ValueLaws.{may-faults}
-use Rattle.guest_rules.proofs.Changes.{cases_tag, change-nothing}
+use Rattle.guest_rules.specs.Fit.{Fit}
+use Rattle.guest_rules.proofs.TurnCases.{Starts, GivenBack, ShowsPage}
 use Rattle.guest_rules.proofs.Commands.{command-in_range}
 use Rattle.guest_rules.proofs.EntryLaws.{some_writer}
 use Rattle.guest_rules.proofs.PageFits.{PageFits, PageFits-may}
-use Rattle.guest_rules.proofs.Currents.{SameCurrent, current-other}
-use Rattle.guest_rules.proofs.SlotsKept.{SlotsFit-kept}
-use Rattle.guest_rules.proofs.FitMay.{infos-pages}
-use Rattle.guest_rules.proofs.FitChanged.{TableStep, step-same, FitAt-step}
 use Rattle.guest_rules.proofs.WantedTags.{ShowsAt, shows_at, file-planned, pages-planned}
 use Rattle.guest_rules.proofs.Reached.{Reaches, store_reaches, entry_page}
 use Rattle.guest_rules.proofs.Refusals.{length-file, length-files}
 use Rattle.guest_rules.proofs.StepResolved.{accepted_at}
-use Rattle.guest_rules.proofs.FoundBytes.{IsFound, found-fits, found-bytes}
-use Rattle.guest_rules.proofs.StoredBytes.{IsWrite, stored-here, stored-elsewhere}
+use Rattle.guest_rules.proofs.FoundBytes.{IsFound, found-fits}
+use Rattle.guest_rules.proofs.FitBytes.{FitAt-bytes}
 use Rattle.guest_rules.proofs.Replies.{Fit-stepped, refused-same}
 use Rattle.guest_rules.proofs.ReplyLoaded.{flat-mapped}
 
@@ -61,7 +52,6 @@ hint-writers info tag tagged some h =
 PageFits-stored : (cache : CacheView) (d : DiskView) (info : PageInfo) (tag : Tag) (found : PageValue) (bytes : List ℕ) → PageFits cache d info found → info.tag ≡ Some tag → 1 ≤ info.writers
     → PageFits cache d info (record found { changed = true; contents = Bytes bytes })
 PageFits-stored cache d info tag found bytes s tagged some = record {
-  unpinned = s.unpinned;
   of_files = s.of_files;
   is_value = tt;
   hinted = s.hinted;
@@ -69,68 +59,6 @@ PageFits-stored cache d info tag found bytes s tagged some = record {
   not_blank = λ t e u. refl;
   same = λ t e u clean unchanged there. let bad : true ≡ false = unchanged in absurd cc;
 }
-
-abbrev bytes_stored : FlatState → ℕ → ℕ → List ℕ → FlatState
-bytes_stored state file at bytes = with_file_bytes state file at bytes
-
--- what a store writes: to a page of a file, which it was found in
-record IsStore (state : FlatState) (g : GuestState) (v : StorageView) (file first off : ℕ) (bytes : List ℕ) (page : ℕ) (tag : Tag) (found : PageValue) (all : List ℕ) : Type 0 where
-  write : IsWrite state.files file first off (length bytes)
-  is : tag ≡ File file (first + off / PAGE)
-  its : IsFound g v page tag found all
-  writers : 1 ≤ (info_at g.parts.pages page).writers
-
--- the page has the bytes that the flat file has, and every other tag its own
-FlatFit-stored : (state : FlatState) (g : GuestState) (v : StorageView) (d : DiskView) (w : StorageView) (e : DiskView) (file first off : ℕ) (bytes : List ℕ) (page : ℕ) (tag : Tag) (found : PageValue) (all : List ℕ) → FitAt state g v d
-    → IsStore state g v file first off bytes page tag found all → SameCurrent g.parts v d g.parts w e page → (w.values page).contents ≡ Bytes (write_at all (off % PAGE) bytes)
-    → FlatFit (bytes_stored state file (PAGE * first + off) bytes) g w e
-FlatFit-stored state g v d w e file first off bytes page tag found all f k same contents = record {
-  lengths = lengths-with_file_bytes state.files file (PAGE * first + off) bytes k.write.within ∙ f.flat.lengths;
-  pages = λ i j is. elim (cases_tag (File i j) (File file (first + off / PAGE))) [
-    | inl z ↦
-        let file_is : i ≡ file = cc in
-        let index_is : j ≡ first + off / PAGE = cc in
-        rw (file_is, index_is) (stored-here state.files file first off bytes all k.write (found-bytes state g v d page tag found all file (first + off / PAGE) f k.its k.is) ∙ sym (ap (current g.parts w e) (sym k.is) ∙ here))
-    | inr n ↦
-        stored-elsewhere state.files file first off i j bytes k.write n ∙ f.flat.pages i j is
-        ∙ sym (current-other g.parts g.parts v w d e page (File i j) same is (λ q. n (let both : Some (File i j) ≡ Some tag = sym (f.pages.found page (File i j) is q).1 ∙ k.its.tagged in let tags : File i j ≡ tag = cc in tags ∙ k.is)) refl)
-  ];
-}
-  where
-    here : current g.parts w e tag ≡ with_bytes all (off % PAGE) bytes
-    here =
-        ap (λ o. current_at g.parts w o (backing g.parts.cache e tag)) (f.pages.indexed page tag k.its.tagged).1
-        ∙ ap (λ u. current_bytes u (w.values page).contents (backing g.parts.cache e tag)) k.its.uptodate
-        ∙ ap (λ c. current_bytes true c (backing g.parts.cache e tag)) contents
-
--- the guest fits the state after the store
-FitAt-stored : (state : FlatState) (g : GuestState) (v : StorageView) (d : DiskView) (w : StorageView) (e : DiskView) (file first off : ℕ) (bytes : List ℕ) (page : ℕ) (tag : Tag) (found : PageValue) (all : List ℕ) → FitAt state g v d
-    → IsStore state g v file first off bytes page tag found all → page < v.pages → GivenBack page v d w e → w.values page ≡ record found { changed = true; contents = Bytes (write_at all (off % PAGE) bytes) }
-    → FitAt (bytes_stored state file (PAGE * first + off) bytes) g w e
-FitAt-stored state g v d w e file first off bytes page tag found all f k below back value =
-    FitAt-step state (bytes_stored state file (PAGE * first + off) bytes) g v d g w e 0 page 0 (processor_at g 0).phase (info_at g.parts.pages page) f step f.pages
-    (SlotsFit-kept state (bytes_stored state file (PAGE * first + off) bytes) g.parts g.parts f.slots refl refl refl refl refl refl) f.entries f.locks
-    (FlatFit-stored state g v d w e file first off bytes page tag found all f k (step-same state g v d g w e 0 page (processor_at g 0).phase (info_at g.parts.pages page) f step) (ap (λ (x : PageValue). x.contents) value))
-    (record { handled = omega arith; counted = rw value (omega (arith, may-faults (v.values page) found k.its.may)) })
-  where
-    fits : PageFits g.parts.cache d (info_at g.parts.pages page) (w.values page)
-    fits =
-        let was = PageFits-may g.parts.cache d (info_at g.parts.pages page) (v.values page) found (found-fits state g v d page tag f k.its.tagged) k.its.may in
-        rw value (PageFits-stored g.parts.cache d (info_at g.parts.pages page) tag found (write_at all (off % PAGE) bytes) was k.its.tagged k.writers)
-
-    step : TableStep g v d g w e 0 page (processor_at g 0).phase (info_at g.parts.pages page)
-    step = record {
-      back = back;
-      below = below;
-      plan = refl;
-      journal = refl;
-      files = refl;
-      slots = refl;
-      index = refl;
-      info_change = record { size = refl; here = refl; others = λ i n. refl };
-      phase_change = change-nothing g.processors 0 (processor_at g 0).phase refl;
-      fits = fits;
-    }
 
 -- bytes within a mapping are within its file
 within_file : (first off len count pages size : ℕ) → off + len ≤ PAGE * count → first + count ≤ pages → size ≡ PAGE * pages → PAGE * first + off + len ≤ size
@@ -140,15 +68,10 @@ pub Fit-stored : (g : GuestState) (v : StorageView) (d : DiskView) (w : StorageV
     → find_slot g.parts.maps (process_of g.plan cpu) number ≡ Some slot → entry_at g.parts.maps slot (off / PAGE) ≡ Some (record { page = page; writable = true }) → GivenBack page v d w e → MayBecome (v.values page) found
     → found.contents ≡ Bytes all → w.values page ≡ record found { changed = true; contents = Bytes (write_at all (off % PAGE) bytes) } → Fit (entered g cpu (Store number off bytes) Done) w e
 Fit-stored g v d w e cpu number off bytes slot page found all f starts slot_found entry back may are value =
-    Fit-stepped g w e cpu op Done (bytes_stored flat s.file (PAGE * s.first + off) bytes)
-    (FitAt-stored flat g v d w e s.file s.first off bytes page k.tag found all f
-    (record {
-      write = record { file_below = rw (length-files flat.files g.plan.files f.flat.lengths) planned; within = within; within_page = piece.within_page };
-      is = s.is;
-      its = record { tagged = has.tagged; uptodate = f.locks.stale page k.tag has.tagged has.unlocked; may = may; are = are };
-      writers = writers;
-    })
-    (rw (infos-pages g v d f.sizes) at has.below) back value) starts.has starts.start
+    Fit-stepped g w e cpu op Done (with_file_bytes flat s.file (PAGE * s.first + off) bytes)
+    (FitAt-bytes flat g v d w e s.file s.first off bytes page k.tag found all found.usage true false f
+    (record { write = record { file_below = rw (length-files flat.files g.plan.files f.flat.lengths) planned; within = within; within_page = piece.within_page }; is = s.is; its = its })
+    back value fits) starts.has starts.start
     (step_done flat process op (refused-same g v d cpu op f starts.has ∙ starts.accepted)
     ∙ ap (λ o. on_live flat o (λ (m : Mapping). (stored flat process number m m.shown off bytes, Done))) (flat-mapped flat g.parts process number slot (off / PAGE) k.tag f.slots slot_found s))
   where
@@ -167,14 +90,22 @@ Fit-stored g v d w e cpu number off bytes slot page found all f starts slot_foun
     s : ShowsAt g.parts slot (off / PAGE) k.tag
     s = shows_at flat g.parts slot (off / PAGE) k.tag f.slots k.shown
 
-    has : HasPage g k.tag page
+    has : ShowsPage g k.tag page
     has = entry_page flat g v d cpu op true slot off (record { page = page; writable = true }) f k entry
 
     piece : IsPiece off (length bytes)
     piece = (command-in_range g.plan cpu (processor_at g cpu).place op f.sizes.range starts.has.command).1
 
+    its : IsFound g v page k.tag found all
+    its = record { tagged = has.tagged; uptodate = has.uptodate; may = may; are = are }
+
     writers : 1 ≤ (info_at g.parts.pages page).writers
     writers = rw (f.entries.writers page) (some_writer g.parts.maps slot (off / PAGE) page entry)
+
+    fits : PageFits g.parts.cache d (info_at g.parts.pages page) (w.values page)
+    fits =
+        let was = PageFits-may g.parts.cache d (info_at g.parts.pages page) (v.values page) found (found-fits flat g v d page k.tag f has.tagged) may in
+        rw value (PageFits-stored g.parts.cache d (info_at g.parts.pages page) k.tag found (write_at all (off % PAGE) bytes) was has.tagged writers)
 
     planned : s.file < length g.plan.files
     planned = file-planned g v d s.file f.sizes s.file_below

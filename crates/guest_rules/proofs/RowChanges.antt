@@ -1,12 +1,12 @@
--- What each change of the tables leaves: a page begun, handled after a discard, freed after a failure, filled, found changed, shown by an entry.
+-- What each change of the tables leaves: a page begun, handled after a discard, freed after a failure, filled, found changed, shown by an entry, pinned or unpinned.
 use Rattle.std.proofs.Common.{◌≡◌, ◌<◌, ◌+◌, ℕ, Bool, true, false, ◌∷◌, drop, length, Some, None, refl, ap, ◌∙◌}
 use Rattle.cmm_types.specs.declared.page.Tag.{Tag}
 use Rattle.guest_pages.specs.declared.info.PageInfo.{PageInfo}
-use Rattle.guest_pages.specs.PagesView.{PagesView, info_at, free_info, with_info, with_owner, with_uptodate, with_dirty, with_writers, popped, pushed}
+use Rattle.guest_pages.specs.PagesView.{PagesView, info_at, free_info, with_info, with_owner, with_uptodate, with_dirty, with_pins, with_writers, popped, pushed}
 use Rattle.guest_cache.specs.CacheView.{without_page}
 use Rattle.guest_rules.specs.declared.parts.Parts.{Parts}
-use Rattle.guest_maps.specs.MapsView.{with_entry, without_entries_of}
-use Rattle.guest_rules.specs.Rows.{freed, handled, filled, with_change, mapped, one_if}
+use Rattle.guest_maps.specs.MapsView.{with_entry, without_entries_of, with_pinned}
+use Rattle.guest_rules.specs.Rows.{freed, handled, filled, with_change, mapped, pinned, pins_after, one_if}
 use Rattle.guest_rules.specs.Turns.{begun}
 use Rattle.guest_rules.proofs.Changes.{InfoChange, change-with_info, InfoChange-trans}
 
@@ -120,3 +120,19 @@ only-mapped parts page slot index writes = record { free = refl; cache = refl; f
 pub maps-mapped : (parts : Parts) (page slot index : ℕ) (writes : Bool) → (mapped parts page slot index writes).maps ≡ with_entry parts.maps slot index (Some (record { page = page; writable = writes }))
 unfolding mapped
 maps-mapped parts page slot index writes = refl
+
+-- one place more that maps the page's tag is pinned, or one less
+abbrev pub pinned_info : (pins : Bool) → PageInfo → PageInfo
+pinned_info pins info = record info { pins = pins_after pins info.pins }
+
+pub change-pinned : (parts : Parts) (page slot index : ℕ) (pins : Bool) → page < length parts.pages.infos → InfoChange parts.pages (pinned parts page slot index pins).pages page (pinned_info pins (info_at parts.pages page))
+unfolding pinned with_pins
+change-pinned parts page slot index pins below = change-with_info parts.pages page (pinned_info pins (info_at parts.pages page)) below
+
+pub only-pinned : (parts : Parts) (page slot index : ℕ) (pins : Bool) → OnlyPages parts (pinned parts page slot index pins)
+unfolding pinned with_pins with_info
+only-pinned parts page slot index pins = record { free = refl; cache = refl; faults = refl }
+
+pub maps-pinned : (parts : Parts) (page slot index : ℕ) (pins : Bool) → (pinned parts page slot index pins).maps ≡ with_pinned parts.maps slot index pins
+unfolding pinned
+maps-pinned parts page slot index pins = refl

@@ -1,18 +1,17 @@
--- What stands after the reply to a load or a store.
-use Rattle.std.specs.Prelude.{◌≡◌, ◌≤◌, ℕ, ◌+◌, ◌/◌, ◌%◌, List, length, Bool, true, false, Some, refl}
-use Rattle.std.proofs.Common.{arith, ap, sym, ◌∙◌}
+-- What stands after the reply to a load or a store, and where the reply shows nothing.
+use Rattle.std.specs.Prelude.{◌≡◌, ℕ, ◌/◌, ◌%◌, List, Bool, true, false, Some, refl}
+use Rattle.std.proofs.Common.{ap}
 use Rattle.cmm_types.specs.declared.page.TheConstants.{PAGE}
 use Rattle.cmm_types.specs.declared.command.Op.{Op}
-use Rattle.cmm_types.specs.declared.command.Op.TheVariants.{Load, Store}
+use Rattle.cmm_types.specs.declared.command.Op.TheVariants.{Write, Load, Store, Pin, Unpin}
 use Rattle.cmm_types.specs.declared.command.Reply.{Reply}
 use Rattle.cmm_types.specs.declared.command.Reply.TheVariants.{Done, Bytes as BytesReply, Refused, Fail}
 use Rattle.cmm_types.specs.declared.command.Cause.{Cause}
 use Rattle.cmm_types.specs.declared.command.FlatRefusal.{FlatRefusal}
-use Rattle.cmm_flat.specs.RangeLaws.{bytes_at-with_bytes}
 use Rattle.cmm_flat.specs.State.{FlatState}
 use Rattle.cmm_flat.specs.Legal.{process_of}
 use Rattle.cmm_io.specs.DiskView.{DiskView}
-use Rattle.essa_state.specs.PageValue.{PageValue, Bytes, MayBecome, is_lost}
+use Rattle.essa_state.specs.PageValue.{PageValue, Bytes, MayBecome}
 use Rattle.cmm_storage.specs.StorageView.{StorageView, write_at}
 use Rattle.guest_maps.specs.declared.slot.Pte.{Pte}
 use Rattle.guest_maps.specs.MapsView.{find_slot, entry_at}
@@ -20,22 +19,26 @@ use Rattle.guest_rules.specs.GuestState.{GuestState, processor_at, entered}
 use Rattle.guest_rules.specs.Fit.{FitAt}
 use Rattle.guest_rules.specs.Cause.{HasShown, IsShown}
 use Rattle.guest_rules.proofs.TurnCases.{Starts}
-use Rattle.guest_rules.proofs.Values.{may_used}
-use Rattle.guest_rules.proofs.Ready.{can_be_used}
 use Rattle.guest_rules.proofs.Commands.{command-in_range}
 use Rattle.guest_rules.proofs.Reached.{Reaches, load_reaches, store_reaches, entry_page}
 use Rattle.guest_rules.proofs.WantedTags.{is_wanted}
-use Rattle.guest_rules.proofs.WholePages.{whole_page}
+use Rattle.guest_rules.proofs.WholePages.{written_there}
 
 -- a command that was refused or that failed shows nothing
 pub shows_refused : (h : GuestState) (process : ℕ) (op : Op) (refusal : FlatRefusal) (w : StorageView) → HasShown h process op (Refused refusal) w
+shows_refused h process (Write file off bytes) refusal w = tt
 shows_refused h process (Load number off len) refusal w = tt
 shows_refused h process (Store number off bytes) refusal w = tt
+shows_refused h process (Pin number index) refusal w = tt
+shows_refused h process (Unpin number index) refusal w = tt
 shows_refused h process op refusal w = tt
 
 pub shows_failed : (h : GuestState) (process : ℕ) (op : Op) (cause : Cause) (w : StorageView) → HasShown h process op (Fail cause) w
+shows_failed h process (Write file off bytes) cause w = tt
 shows_failed h process (Load number off len) cause w = tt
 shows_failed h process (Store number off bytes) cause w = tt
+shows_failed h process (Pin number index) cause w = tt
+shows_failed h process (Unpin number index) cause w = tt
 shows_failed h process op cause w = tt
 
 -- the entry that a load or store went through still shows its page
@@ -45,7 +48,7 @@ shown_entry : (state : FlatState) (g : GuestState) (v : StorageView) (d : DiskVi
 unfolding entered
 shown_entry state g v d cpu number op writes slot off pte reply f k found at allows =
     let has = entry_page state g v d cpu op writes slot off pte f k at in
-    record { slot = slot; writable = pte.writable; found = found; entry = at; allows = allows; uptodate = f.locks.stale pte.page k.tag has.tagged has.unlocked }
+    record { slot = slot; writable = pte.writable; found = found; entry = at; allows = allows; uptodate = has.uptodate }
 
 pub shows_loaded : (state : FlatState) (g : GuestState) (v w : StorageView) (d : DiskView) (cpu number off len slot : ℕ) (pte : Pte) (bytes : List ℕ) → FitAt state g v d → Starts g cpu (Load number off len)
     → find_slot g.parts.maps (process_of g.plan cpu) number ≡ Some slot → entry_at g.parts.maps slot (off / PAGE) ≡ Some pte
@@ -53,10 +56,6 @@ pub shows_loaded : (state : FlatState) (g : GuestState) (v w : StorageView) (d :
 shows_loaded state g v w d cpu number off len slot pte bytes f starts found at =
     let k = load_reaches state g v d cpu number off len slot f starts found in
     (pte.page, shown_entry state g v d cpu number (Load number off len) false slot off pte (BytesReply bytes) f k found at (λ bad. absurd (cc bad)))
-
--- bytes that were stored to a whole page stand in it
-stored_there : (all bytes : List ℕ) (off : ℕ) → length all ≡ PAGE → off + length bytes ≤ PAGE → off + length bytes ≤ length all
-stored_there all bytes off whole within = omega (arith, whole, within)
 
 pub shows_stored : (state : FlatState) (g : GuestState) (v w : StorageView) (d : DiskView) (cpu number off : ℕ) (bytes : List ℕ) (slot page : ℕ) (found : PageValue) (all : List ℕ) → FitAt state g v d
     → Starts g cpu (Store number off bytes) → find_slot g.parts.maps (process_of g.plan cpu) number ≡ Some slot → entry_at g.parts.maps slot (off / PAGE) ≡ Some (record { page = page; writable = true })
@@ -66,9 +65,7 @@ shows_stored state g v w d cpu number off bytes slot page found all f starts at_
     let pte : Pte = record { page = page; writable = true } in
     let k = store_reaches state g v d cpu number off bytes slot f starts at_slot in
     let has = entry_page state g v d cpu (Store number off bytes) true slot off pte f k at in
-    let same : found ≡ v.values page = may_used (v.values page) found (can_be_used state g v d page k.tag f has).usage may (ap is_lost are) in
-    let (file, index, is) = (is_wanted state g v d cpu (Store number off bytes) k.tag f.sizes f.slots starts k.wants).of_file in
-    let whole : length all ≡ PAGE = whole_page state g v d page file index all f (has.tagged ∙ ap Some is) (f.locks.stale page k.tag has.tagged has.unlocked) (ap (λ q. q.contents) (sym same) ∙ are) in
+    let wanted = is_wanted state g v d cpu (Store number off bytes) k.tag f.sizes f.slots starts k.wants in
     let piece = (command-in_range g.plan cpu (processor_at g cpu).place (Store number off bytes) f.sizes.range starts.has.command).1 in (
       page,
       shown_entry state g v d cpu number (Store number off bytes) true slot off pte Done f k at_slot at (λ e. refl),
@@ -76,6 +73,6 @@ shows_stored state g v w d cpu number off bytes slot page found all f starts at_
         changed = ap (λ q. q.changed) value;
         all = write_at all (off % PAGE) bytes;
         are = ap (λ q. q.contents) value;
-        there = bytes_at-with_bytes all (off % PAGE) bytes (stored_there all bytes (off % PAGE) whole piece.within_page);
+        there = written_there state g v d page (off % PAGE) k.tag found all bytes f has wanted may are piece.within_page;
       },
     )

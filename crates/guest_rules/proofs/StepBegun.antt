@@ -30,7 +30,9 @@ use Rattle.guest_rules.proofs.EntriesKept.{EntriesFit-info}
 use Rattle.guest_rules.proofs.CurrentsKept.{current-begun, FlatFit-same}
 use Rattle.guest_rules.proofs.FitMay.{infos-pages}
 use Rattle.guest_rules.proofs.FitChanged.{TableStep, step-same, FitAt-step}
-use Rattle.guest_rules.proofs.WantedTags.{IsWanted, is_wanted, wants-needs}
+use Rattle.guest_rules.proofs.WantedTags.{IsWanted, is_wanted}
+use Rattle.guest_rules.proofs.PinsKept.{PinsStand-begun, standing}
+use Rattle.guest_rules.proofs.Unpinned.{begun-needs}
 
 -- a free page is unchanged after it was made stable, where it isn't a page of bytes
 stable-stands : (contents : Contents) (changed : Bool) → StandsWith contents U changed → StandsWith (stable_contents contents) S changed
@@ -41,7 +43,6 @@ stable-stands Lost changed h = (refl, h.1)
 -- a free page that was made stable
 PageFits-begun : (g : GuestState) (d : DiskView) (cpu : ℕ) (tag : Tag) (found : PageValue) → ((file : ℕ) × (index : ℕ) × (tag ≡ File file index)) → found.usage ≡ U → IsValue found → PageFits g.parts.cache d (begun_info tag cpu) (made_stable found)
 PageFits-begun g d cpu tag found of_file unused is = record {
-  unpinned = refl;
   of_files = λ t e. (of_file.0, of_file.1, (let both : Some tag ≡ Some t = e in let same : t ≡ tag = cc in same ∙ of_file.2));
   is_value = stable-stands found.contents found.changed (rw unused at is);
   hinted = sym (hint-stale (begun_info tag cpu) tag refl refl);
@@ -65,9 +66,9 @@ unfolding with_phase begun
 Fit-begun state g v d w e cpu op tag page rest found f starts wants none top back may value =
     FitAt-step state state g v d h w e cpu page 0 (Fill page) (begun_info tag cpu) f step
     (PagesFit-begun g.parts h.parts page rest (begun_info tag cpu) tag f.pages top (begun-free g.parts page tag cpu ∙ ap (drop 1) top) change index refl wanted.is_tag none)
-    (SlotsFit-kept state state g.parts h.parts f.slots refl refl refl refl change.size index.files)
+    (SlotsFit-kept state state g.parts h.parts f.slots refl refl refl refl refl change.size index.files)
     (EntriesFit-info g.parts h.parts page (begun_info tag cpu) f.entries change refl (λ t t_is u. let bad : None ≡ Some t = sym free.1 ∙ t_is in absurd cc) (ap (λ (i : PageInfo). i.writers) (sym bare)))
-    (LocksFit-begun g h cpu page op (begun_info tag cpu) tag f.locks refl starts.has.below within starts.has.command (wants-needs g cpu op tag wants) starts.start (ap (λ (i : PageInfo). i.owner) bare) change phase refl refl refl refl)
+    (LocksFit-begun g h cpu page op (begun_info tag cpu) tag f.locks refl starts.has.below within starts.has.command (begun-needs state g v d cpu op tag f starts wants none) starts.start (ap (λ (i : PageInfo). i.owner) bare) change phase refl refl refl refl)
     (FlatFit-same state g h v w d e f.flat refl index.files index.slots
     (current-begun g.parts h.parts v w d e page tag (step-same state g v d h w e cpu page (Fill page) (begun_info tag cpu) f step) index free.1 none (ap (λ (i : PageInfo). i.uptodate) change.here)))
     (record { handled = omega arith; counted = rw value (omega (arith, may-faults (v.values page) found may, stable-kept found)) })
@@ -113,5 +114,6 @@ Fit-begun state g v d w e cpu op tag page rest found f starts wants none top bac
       index = index.size;
       info_change = change;
       phase_change = phase;
+      pins = PinsStand-begun state g.parts h.parts page tag (begun_info tag cpu) (standing g.parts f.pins) f.pages f.slots bare none refl refl change index (record { slots = refl; pinned = refl });
       fits = rw value (PageFits-begun g d cpu tag found wanted.of_file unused (MayBecome-is_value (v.values page) found (f.hints.values page below) may));
     }

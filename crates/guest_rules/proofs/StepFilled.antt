@@ -1,5 +1,5 @@
 -- Fit after a page was filled.
-use Rattle.std.proofs.Common.{◌≡◌, ◌<◌, ℕ, true, false, List, length, Some, refl, ap, sym, ◌∙◌, arith}
+use Rattle.std.proofs.Common.{◌≡◌, ◌<◌, ℕ, true, false, List, length, Some, refl, ap, sym, ◌∙◌, inl, arith}
 use Rattle.cmm_types.specs.declared.page.Usage.TheVariants.{V}
 use Rattle.cmm_types.specs.declared.page.Tag.{Tag}
 use Rattle.cmm_types.specs.declared.page.Tag.TheVariants.{File}
@@ -24,17 +24,17 @@ use Rattle.guest_rules.proofs.LocksKept.{LocksFit-released}
 use Rattle.guest_rules.proofs.SlotsKept.{SlotsFit-kept}
 use Rattle.guest_rules.proofs.EntriesKept.{EntriesFit-info}
 use Rattle.guest_rules.proofs.Unshown.{stale-unshown}
+use Rattle.guest_rules.proofs.PinsKept.{PinsStand-info, standing}
+use Rattle.guest_rules.proofs.Unpinned.{stale-unpinned}
 use Rattle.guest_rules.proofs.CurrentsKept.{current-kept, FlatFit-same}
 use Rattle.guest_rules.proofs.FitMay.{infos-pages}
 use Rattle.guest_rules.proofs.FitChanged.{TableStep, step-same, FitAt-step}
-use Rattle.guest_rules.proofs.StepFreed.{filled_alone, fills_one}
 
 -- a page that has the bytes of its tag
 PageFits-filled : (g : GuestState) (d : DiskView) (info : PageInfo) (tag : Tag) (file index : ℕ) (value : PageValue) → info.tag ≡ Some tag → tag ≡ File file index → info.pins ≡ 0 → info.writers ≡ 0 → info.dirty ≡ false
     → value.usage ≡ V → value.changed ≡ false → value.contents ≡ Bytes (backing g.parts.cache d tag) → PageFits g.parts.cache d (filled_info info) value
 unfolding hint
 PageFits-filled g d info tag file index value tagged is pins writers dirty usage changed contents = record {
-  unpinned = pins;
   of_files = λ t e. (file, index, same t e ∙ is);
   is_value = rw contents tt;
   hinted = rw (usage, tagged, dirty, pins, writers) refl;
@@ -57,9 +57,9 @@ unfolding with_phase
 Fit-filled state g v d w e cpu page tag f below phase tagged back value =
     FitAt-step state state g v d h w e cpu page 0 Start (filled_info (info_at g.parts.pages page)) f step
     (PagesFit-kept g.parts h.parts page (filled_info (info_at g.parts.pages page)) tag f.pages tagged tagged (filled-free g.parts page) change refl)
-    (SlotsFit-kept state state g.parts h.parts f.slots refl refl refl refl change.size refl)
+    (SlotsFit-kept state state g.parts h.parts f.slots refl refl refl refl refl change.size refl)
     (EntriesFit-info g.parts h.parts page (filled_info (info_at g.parts.pages page)) f.entries change refl (λ t t_is u. (t_is, refl)) refl)
-    (LocksFit-released g h cpu page (filled_info (info_at g.parts.pages page)) f.locks refl change phases refl (λ t k. refl) (filled_alone state g v d cpu page f phase) (fills_one g cpu page phase) (λ u. clean))
+    (LocksFit-released g h cpu page (filled_info (info_at g.parts.pages page)) f.locks refl change phases refl (inl phase) (record { clean = λ u. clean; stale = λ t k none. refl }))
     (FlatFit-same state g h v w d e f.flat refl refl refl (current-kept g.parts h.parts v w d e page (step-same state g v d h w e cpu page Start (filled_info (info_at g.parts.pages page)) f step) refl here))
     (record {
       handled = omega arith;
@@ -110,6 +110,7 @@ Fit-filled state g v d w e cpu page tag f below phase tagged back value =
       index = refl;
       info_change = change;
       phase_change = phases;
-      fits = PageFits-filled g d (info_at g.parts.pages page) tag of_file.0 of_file.1 (w.values page) tagged of_file.2 (f.pins.unpinned page) (stale-unshown g.parts page f.entries stale) clean
+      pins = PinsStand-info g.parts h.parts page (filled_info (info_at g.parts.pages page)) (standing g.parts f.pins) change refl (record { slots = refl; pinned = refl }) refl refl (λ u. refl);
+      fits = PageFits-filled g d (info_at g.parts.pages page) tag of_file.0 of_file.1 (w.values page) tagged of_file.2 (stale-unpinned g.parts page tag f.pins f.pages tagged stale) (stale-unshown g.parts page f.entries stale) clean
           (ap (λ (x : PageValue). x.usage) value) (ap (λ (x : PageValue). x.changed) value) contents;
     }

@@ -14,7 +14,7 @@ use Rattle.essa_state.specs.PageValue.{PageValue, MayBecome}
 use Rattle.cmm_storage.specs.StorageView.{StorageView}
 use Rattle.guest_pages.specs.PagesView.{info_at}
 use Rattle.guest_maps.specs.MapsView.{MapsView, slot_at, find_slot, entry_at, tag_at, is_mapping, with_entry}
-use Rattle.guest_maps.specs.MapsLaws.{slots-with_entry, pages-with_entry}
+use Rattle.guest_maps.specs.MapsLaws.{slots-with_entry, pinned-with_entry, pages-with_entry}
 use Rattle.guest_rules.specs.declared.parts.Parts.{Parts}
 use Rattle.guest_rules.specs.GuestState.{GuestState, with_parts}
 use Rattle.guest_rules.specs.Rows.{mapped}
@@ -26,6 +26,7 @@ use Rattle.guest_rules.proofs.RowChanges.{shown_info, change-mapped, only-mapped
 use Rattle.guest_rules.proofs.EntryLaws.{length-with_entry}
 use Rattle.guest_rules.proofs.SlotsKept.{SlotsFit-kept}
 use Rattle.guest_rules.proofs.EntriesKept.{EntriesFit-mapped}
+use Rattle.guest_rules.proofs.PinsKept.{SamePlaces, PinsStand-info, standing}
 use Rattle.guest_rules.proofs.WantedTags.{ShowsAt, shows_at}
 use Rattle.guest_rules.proofs.StepTold.{Fit-told}
 
@@ -72,11 +73,12 @@ pub Fit-resolved : (state : FlatState) (g : GuestState) (v : StorageView) (d : D
     → Starts g cpu op → Wants g cpu op tag → Maps g cpu op writes slot off → HasPage g tag page → CanBeSet (entry_at g.parts.maps slot (off / PAGE)) writes → GivenBack page v d w e → MayBecome (v.values page) found
     → IsRehinted (mapped g.parts page slot (off / PAGE) writes) page found after (w.values page) → FitAt state (with_parts g after) w e
 Fit-resolved state g v d w e cpu op tag writes slot off page found after f starts wants maps has can back may told =
-    Fit-told state g v d w e page tag found middle after f has back may (record {
+    Fit-told state state g v d w e page tag found middle after f has back may (record {
+      files = refl;
       only = only-mapped g.parts page slot (off / PAGE) writes;
       change = record { size = change.size; here = refl; others = change.others };
-      keeps = rw change.here (record { tag = refl; uptodate = refl; dirty = refl; owner = refl; pins = refl });
-      slots = SlotsFit-kept state state g.parts middle f.slots refl (ap (λ (m : MapsView). m.slots) set ∙ slots-with_entry g.parts.maps slot (off / PAGE) _) (ap (λ (m : MapsView). length m.entries) set ∙ length-with_entry g.parts.maps slot (off / PAGE) _)
+      keeps = rw change.here (record { tag = refl; uptodate = refl; dirty = refl; owner = refl });
+      slots = SlotsFit-kept state state g.parts middle f.slots refl places.slots (ap (λ (m : MapsView). length m.entries) set ∙ length-with_entry g.parts.maps slot (off / PAGE) _) places.pinned
           (ap (λ (m : MapsView). m.pages) set ∙ pages-with_entry g.parts.maps slot (off / PAGE) _) change.size (ap (λ c. c.files) (only-mapped g.parts page slot (off / PAGE) writes).cache);
       entries = EntriesFit-mapped g.parts middle slot (off / PAGE) page writes tag f.entries (record {
         slot_below = rw f.slots.slots at its.slot_below;
@@ -88,6 +90,7 @@ Fit-resolved state g v d w e cpu op tag writes slot off page found after f start
         writable = its.writable;
         can = can;
       }) change set;
+      pins = PinsStand-info g.parts middle page (shown_info writes (info_at g.parts.pages page)) (standing g.parts f.pins) change (only-mapped g.parts page slot (off / PAGE) writes).cache places refl refl (λ u. u);
     })
     told
   where
@@ -99,6 +102,12 @@ Fit-resolved state g v d w e cpu op tag writes slot off page found after f start
 
     change : InfoChange g.parts.pages middle.pages page (shown_info writes (info_at g.parts.pages page))
     change = change-mapped g.parts page slot (off / PAGE) writes has.below
+
+    places : SamePlaces g.parts.maps middle.maps
+    places = record {
+      slots = ap (λ (m : MapsView). m.slots) set ∙ slots-with_entry g.parts.maps slot (off / PAGE) _;
+      pinned = ap (λ (m : MapsView). m.pinned) set ∙ pinned-with_entry g.parts.maps slot (off / PAGE) _;
+    }
 
     its : Through g writes slot off tag
     its = through g cpu op tag writes slot off starts wants maps

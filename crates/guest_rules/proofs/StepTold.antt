@@ -13,7 +13,7 @@ use Rattle.guest_rules.specs.declared.parts.Parts.{Parts}
 use Rattle.guest_rules.specs.GuestState.{GuestState, processor_at, with_parts}
 use Rattle.guest_rules.specs.Hint.{hint}
 use Rattle.guest_rules.specs.Rows.{with_change}
-use Rattle.guest_rules.specs.Fit.{FitAt, SlotsFit, EntriesFit, backing, current_bytes, one_if_lost}
+use Rattle.guest_rules.specs.Fit.{FitAt, SlotsFit, EntriesFit, FlatFit, backing, current_bytes, one_if_lost}
 use Rattle.guest_rules.proofs.TurnCases.{GivenBack, HasPage, IsRehinted}
 use Rattle.guest_rules.proofs.ValueLaws.{may-faults}
 use Rattle.guest_rules.proofs.Changes.{InfoChange, InfoChange-trans, change-nothing}
@@ -23,6 +23,7 @@ use Rattle.guest_rules.proofs.Currents.{current_bytes-may}
 use Rattle.guest_rules.proofs.PagesKept.{PagesFit-kept}
 use Rattle.guest_rules.proofs.LocksKept.{LocksFit-kept}
 use Rattle.guest_rules.proofs.SlotsKept.{SlotsFit-kept}
+use Rattle.guest_rules.proofs.PinsKept.{PinsStand, PinsStand-info, standing}
 use Rattle.guest_rules.proofs.EntriesKept.{EntriesFit-info}
 use Rattle.guest_rules.proofs.CurrentsKept.{current-kept, FlatFit-same}
 use Rattle.guest_rules.proofs.FitMay.{infos-pages}
@@ -34,21 +35,20 @@ pub record KeepsPage (old info : PageInfo) : Type 0 where
   pub uptodate : info.uptodate ≡ old.uptodate
   pub dirty : info.dirty ≡ old.dirty
   pub owner : info.owner ≡ old.owner
-  pub pins : info.pins ≡ old.pins
 
 pub KeepsPage-refl : (info : PageInfo) → KeepsPage info info
-KeepsPage-refl info = record { tag = refl; uptodate = refl; dirty = refl; owner = refl; pins = refl }
+KeepsPage-refl info = record { tag = refl; uptodate = refl; dirty = refl; owner = refl }
 
 -- where the change bit moved to
-record IsChanged (info : PageInfo) (changed : Bool) (new : PageInfo) : Type 0 where
-  tag : new.tag ≡ info.tag
-  uptodate : new.uptodate ≡ info.uptodate
-  owner : new.owner ≡ info.owner
-  pins : new.pins ≡ info.pins
-  writers : new.writers ≡ info.writers
-  clean : new.dirty ≡ false → (info.dirty ≡ false) × (changed ≡ false)
+pub record IsChanged (info : PageInfo) (changed : Bool) (new : PageInfo) : Type 0 where
+  pub tag : new.tag ≡ info.tag
+  pub uptodate : new.uptodate ≡ info.uptodate
+  pub owner : new.owner ≡ info.owner
+  pub pins : new.pins ≡ info.pins
+  pub writers : new.writers ≡ info.writers
+  pub clean : new.dirty ≡ false → (info.dirty ≡ false) × (changed ≡ false)
 
-is_changed : (info : PageInfo) (changed : Bool) → IsChanged info changed (changed_info changed info)
+pub is_changed : (info : PageInfo) (changed : Bool) → IsChanged info changed (changed_info changed info)
 is_changed info true = record { tag = refl; uptodate = refl; owner = refl; pins = refl; writers = refl; clean = λ e. let bad : true ≡ false = e in absurd cc }
 is_changed info false = record { tag = refl; uptodate = refl; owner = refl; pins = refl; writers = refl; clean = λ e. (e, refl) }
 
@@ -57,48 +57,57 @@ bytes-stand (Bytes bytes) usage blank lost = tt
 bytes-stand Blank usage blank lost = let bad : true ≡ false = blank in absurd cc
 bytes-stand Lost usage blank lost = let bad : true ≡ false = lost in absurd cc
 
-not_lost : (contents : Contents) (value : PageValue) → value.contents ≡ contents → is_lost contents ≡ false → one_if_lost value ≡ 0
+pub not_lost : (contents : Contents) (value : PageValue) → value.contents ≡ contents → is_lost contents ≡ false → one_if_lost value ≡ 0
 not_lost (Bytes bytes) value e there = rw (e, one_if_lost) refl
 not_lost Blank value e there = rw (e, one_if_lost) refl
 not_lost Lost value e there = let bad : true ≡ false = there in absurd cc
 
-PageFits-told : (cache : CacheView) (d : DiskView) (old info new : PageInfo) (found : PageValue) (tag : Tag) → PageFits cache d old found → KeepsPage old info → IsChanged info found.changed new → old.tag ≡ Some tag → old.uptodate ≡ true
-    → is_lost found.contents ≡ false → PageFits cache d new (record found { usage = hint new; changed = false })
-PageFits-told cache d old info new found tag s keeps changed tagged uptodate there = record {
-  unpinned = changed.pins ∙ keeps.pins ∙ s.unpinned;
+-- a page that is up to date, found there and left with its hint; where it is clean it has what backs its tag
+pub PageFits-settled : (cache : CacheView) (d : DiskView) (old new : PageInfo) (found : PageValue) (tag : Tag) → PageFits cache d old found → new.tag ≡ old.tag → old.tag ≡ Some tag → old.uptodate ≡ true → is_lost found.contents ≡ false
+    → (new.dirty ≡ false → found.contents ≡ Bytes (backing cache d tag)) → PageFits cache d new (record found { usage = hint new; changed = false })
+PageFits-settled cache d old new found tag s tags tagged uptodate there clean = record {
   of_files = λ t e. s.of_files t (sym tags ∙ e);
   is_value = bytes-stand found.contents (hint new) (s.not_blank tag tagged uptodate) there;
   hinted = refl;
   volatile = λ u. refl;
   not_blank = λ t e u. s.not_blank t (sym tags ∙ e) uptodate;
-  same = λ t e u clean unchanged kept. let k = changed.clean clean in s.same t (sym tags ∙ e) uptodate (sym keeps.dirty ∙ k.0) k.1 there;
+  same = λ t e u c unchanged kept. clean c ∙ ap (λ (x : Tag). Bytes (backing cache d x)) (let both : Some tag ≡ Some t = sym tagged ∙ sym tags ∙ e in cc);
 }
-  where
-    tags : new.tag ≡ old.tag
-    tags = changed.tag ∙ keeps.tag
 
--- the tables between, in which at most the page's writers changed
-pub record Middle (state : FlatState) (g : GuestState) (middle : Parts) (page : ℕ) : Type 0 where
+PageFits-told : (cache : CacheView) (d : DiskView) (old info new : PageInfo) (found : PageValue) (tag : Tag) → PageFits cache d old found → KeepsPage old info → IsChanged info found.changed new → old.tag ≡ Some tag → old.uptodate ≡ true
+    → is_lost found.contents ≡ false → PageFits cache d new (record found { usage = hint new; changed = false })
+PageFits-told cache d old info new found tag s keeps changed tagged uptodate there =
+    PageFits-settled cache d old new found tag s (changed.tag ∙ keeps.tag) tagged uptodate there
+    (λ clean. let k = changed.clean clean in s.same tag tagged uptodate (sym keeps.dirty ∙ k.0) k.1 there)
+
+-- the tables between, in which at most the page's writers and pins changed, and the flat state that they fit
+pub record Middle (state later : FlatState) (g : GuestState) (middle : Parts) (page : ℕ) : Type 0 where
+  pub files : later.files ≡ state.files
   pub only : OnlyPages g.parts middle
   pub change : InfoChange g.parts.pages middle.pages page (info_at middle.pages page)
   pub keeps : KeepsPage (info_at g.parts.pages page) (info_at middle.pages page)
-  pub slots : SlotsFit state middle
+  pub slots : SlotsFit later middle
   pub entries : EntriesFit middle
+  pub pins : PinsStand middle
 
 -- the page was found there, and left so
 record IsTold (middle : Parts) (page : ℕ) (found left : PageValue) : Type 0 where
   there : is_lost found.contents ≡ false
   value : left ≡ record found { usage = hint (info_at (with_change middle page found.changed).pages page); changed = false }
 
-Fit-changed : (state : FlatState) (g : GuestState) (v : StorageView) (d : DiskView) (w : StorageView) (e : DiskView) (page : ℕ) (tag : Tag) (found : PageValue) (middle : Parts) → FitAt state g v d → HasPage g tag page → GivenBack page v d w e
-    → MayBecome (v.values page) found → Middle state g middle page → IsTold middle page found (w.values page) → FitAt state (with_parts g (with_change middle page found.changed)) w e
-Fit-changed state g v d w e page tag found middle f has back may mid told =
-    FitAt-step state state g v d h w e 0 page 0 (processor_at g 0).phase new f step
+-- another flat state with the same files
+FlatFit-files : (state later : FlatState) (g : GuestState) (v : StorageView) (d : DiskView) → FlatFit state g v d → later.files ≡ state.files → FlatFit later g v d
+FlatFit-files state later g v d f files = record { lengths = rw files f.lengths; pages = λ file index is. rw files (f.pages file index is) }
+
+Fit-changed : (state later : FlatState) (g : GuestState) (v : StorageView) (d : DiskView) (w : StorageView) (e : DiskView) (page : ℕ) (tag : Tag) (found : PageValue) (middle : Parts) → FitAt state g v d → HasPage g tag page → GivenBack page v d w e
+    → MayBecome (v.values page) found → Middle state later g middle page → IsTold middle page found (w.values page) → FitAt later (with_parts g (with_change middle page found.changed)) w e
+Fit-changed state later g v d w e page tag found middle f has back may mid told =
+    FitAt-step state later g v d h w e 0 page 0 (processor_at g 0).phase new f step
     (PagesFit-kept g.parts after page new tag f.pages has.tagged (tags ∙ has.tagged) (only.free ∙ mid.only.free) change cache)
-    (SlotsFit-kept state state middle after mid.slots refl (ap (λ m. m.slots) maps) (ap (λ m. length m.entries) maps) (ap (λ m. m.pages) maps) last.size (ap (λ (c : CacheView). c.files) only.cache))
+    (SlotsFit-kept later later middle after mid.slots refl (ap (λ m. m.slots) maps) (ap (λ m. length m.entries) maps) (ap (λ m. m.pinned) maps) (ap (λ m. m.pages) maps) last.size (ap (λ (c : CacheView). c.files) only.cache))
     (EntriesFit-info middle after page new mid.entries last maps (λ t t_is u. (changed.tag ∙ t_is, changed.uptodate ∙ u)) changed.writers)
     (LocksFit-kept g h page new f.locks refl refl change tags (changed.owner ∙ mid.keeps.owner) uptodates (λ u. let bad : true ≡ false = sym uptodate ∙ sym uptodates ∙ u in cc))
-    (FlatFit-same state g h v w d e f.flat refl (ap (λ (c : CacheView). c.files) cache) (ap (λ (c : CacheView). c.slots) cache) (current-kept g.parts after v w d e page (step-same state g v d h w e 0 page (processor_at g 0).phase new f step) cache here))
+    (FlatFit-same later g h v w d e (FlatFit-files state later g v d f.flat mid.files) refl (ap (λ (c : CacheView). c.files) cache) (ap (λ (c : CacheView). c.slots) cache) (current-kept g.parts after v w d e page (step-same state g v d h w e 0 page (processor_at g 0).phase new f step) cache here))
     (record { handled = omega (arith, only.faults, mid.only.faults); counted = rw told.value (omega (arith, may-faults (v.values page) found may, not_lost found.contents found refl told.there)) })
   where
     after : Parts
@@ -169,26 +178,29 @@ Fit-changed state g v d w e page tag found middle f has back may mid told =
       index = ap (λ (c : CacheView). length c.index) cache;
       info_change = change;
       phase_change = change-nothing g.processors 0 (processor_at g 0).phase refl;
+      pins = PinsStand-info middle after page new mid.pins last only.cache (record { slots = ap (λ m. m.slots) maps; pinned = ap (λ m. m.pinned) maps }) changed.tag changed.pins (λ u. changed.uptodate ∙ u);
       fits = fits;
     }
 
 -- the page was found there, and its hint was told over the tables between
-pub Fit-told : (state : FlatState) (g : GuestState) (v : StorageView) (d : DiskView) (w : StorageView) (e : DiskView) (page : ℕ) (tag : Tag) (found : PageValue) (middle after : Parts) → FitAt state g v d → HasPage g tag page → GivenBack page v d w e
-    → MayBecome (v.values page) found → Middle state g middle page → IsRehinted middle page found after (w.values page) → FitAt state (with_parts g after) w e
-Fit-told state g v d w e page tag found middle after f has back may mid told =
-    subst (λ (q : Parts). FitAt state (with_parts g q) w e) (sym told.tables)
-    (Fit-changed state g v d w e page tag found middle f has back may mid
+pub Fit-told : (state later : FlatState) (g : GuestState) (v : StorageView) (d : DiskView) (w : StorageView) (e : DiskView) (page : ℕ) (tag : Tag) (found : PageValue) (middle after : Parts) → FitAt state g v d → HasPage g tag page → GivenBack page v d w e
+    → MayBecome (v.values page) found → Middle state later g middle page → IsRehinted middle page found after (w.values page) → FitAt later (with_parts g after) w e
+Fit-told state later g v d w e page tag found middle after f has back may mid told =
+    subst (λ (q : Parts). FitAt later (with_parts g q) w e) (sym told.tables)
+    (Fit-changed state later g v d w e page tag found middle f has back may mid
     (record { there = told.there; value = told.value ∙ ap (λ (q : Parts). let x : PageValue = record found { usage = hint (info_at q.pages page); changed = false } in x) told.tables }))
 
 -- the tables themselves
 pub Fit-rehinted : (state : FlatState) (g : GuestState) (v : StorageView) (d : DiskView) (w : StorageView) (e : DiskView) (page : ℕ) (tag : Tag) (found : PageValue) (after : Parts) → FitAt state g v d → HasPage g tag page → GivenBack page v d w e
     → MayBecome (v.values page) found → IsRehinted g.parts page found after (w.values page) → FitAt state (with_parts g after) w e
 Fit-rehinted state g v d w e page tag found after f has back may told =
-    Fit-told state g v d w e page tag found g.parts after f has back may (record {
+    Fit-told state state g v d w e page tag found g.parts after f has back may (record {
+      files = refl;
       only = record { free = refl; cache = refl; faults = refl };
       change = record { size = refl; here = refl; others = λ i n. refl };
       keeps = KeepsPage-refl (info_at g.parts.pages page);
       slots = f.slots;
       entries = f.entries;
+      pins = standing g.parts f.pins;
     })
     told

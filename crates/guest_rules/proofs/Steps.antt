@@ -8,7 +8,7 @@ use Rattle.cmm_types.specs.declared.command.TheConstants.{MAX_MAPPING_PAGES}
 use Rattle.cmm_types.specs.declared.command.Op.{Op}
 use Rattle.cmm_types.specs.declared.turn.Turn.TheVariants.{Moved, Again}
 use Rattle.cmm_types.specs.declared.turn.Why.{Why}
-use Rattle.cmm_flat.specs.Legal.{command_of, process_of}
+use Rattle.cmm_flat.specs.Legal.{process_of}
 use Rattle.cmm_io.specs.DiskView.{DiskView}
 use Rattle.essa_state.specs.PageValue.{PageValue, is_lost}
 use Rattle.cmm_storage.specs.StorageView.{StorageView}
@@ -18,35 +18,21 @@ use Rattle.guest_maps.specs.declared.slot.Pte.{Pte}
 use Rattle.guest_maps.specs.MapsView.{MapsView, place_at, entry_at, with_entry}
 use Rattle.guest_maps.specs.MapsLaws.{slots-with_entry, slots-without_entries_of}
 use Rattle.guest_rules.specs.declared.parts.Parts.{Parts}
-use Rattle.guest_rules.specs.declared.processor.Phase.{Phase}
 use Rattle.guest_rules.specs.declared.processor.Phase.TheVariants.{Start, Fill}
 use Rattle.guest_rules.specs.GuestState.{GuestState, processor_at, with_parts, with_phase}
 use Rattle.guest_rules.specs.Rows.{filled, handled, mapped}
 use Rattle.guest_rules.specs.Turns.{begun}
-use Rattle.guest_rules.specs.Fit.{Fit}
-use Rattle.guest_rules.proofs.TurnCases.{TurnCase, was_idle, was_refused, was_mapped, waited, missed, missed_rehinted, was_begun, was_gone, was_read, read_failed, was_resolved, was_loaded, was_stored, entry_failed, fill_failed, was_filled, Has, Starts, Wants, Maps, HasPage, IsRehinted}
-use Rattle.guest_rules.proofs.Processors.{processor-with_phase}
+use Rattle.guest_rules.specs.Fit.{Fit, NeedsPage}
+use Rattle.guest_rules.proofs.TurnCases.{TurnCase, was_idle, was_refused, was_mapped, waited, missed, missed_rehinted, was_begun, was_gone, was_read, was_written, touch_failed, was_resolved, was_loaded, was_stored, entry_failed, fill_failed, was_filled, Has, Starts, Wants, Maps, HasPage, IsRehinted, was_pinned, was_sync}
+use Rattle.guest_rules.proofs.Processors.{at_phase}
 use Rattle.guest_rules.proofs.Tables.{page_of-handled, tag-begun}
 use Rattle.guest_rules.proofs.RowChanges.{only-changed, only-mapped, maps-changed, maps-mapped, handled-maps, freed-maps}
 use Rattle.guest_rules.proofs.EntryLaws.{entry_at-set}
 use Rattle.guest_rules.proofs.WantedTags.{shows_at}
 use Rattle.guest_rules.proofs.StepResolved.{through}
 use Rattle.guest_rules.proofs.WantedKept.{wanted-same, maps-same}
-use Rattle.guest_rules.proofs.Ranks.{Rank, has_command, served, has_page, fills_own, has_none, start_rank, rank_of, rank-none, rank-lost, rank-unserved, rank-fills}
-
--- the processor has the same command in its new phase
-record IsAt (h : GuestState) (cpu : ℕ) (op : Op) (phase : Phase) : Type 0 where
-  command : command_of h.plan cpu (processor_at h cpu).place ≡ Some op
-  phase_is : (processor_at h cpu).phase ≡ phase
-
-at_phase : (g : GuestState) (cpu : ℕ) (op : Op) (parts : Parts) (phase : Phase) → Has g cpu op → IsAt (with_phase (with_parts g parts) cpu phase) cpu op phase
-unfolding with_phase
-at_phase g cpu op parts phase has =
-    let here = processor-with_phase (with_parts g parts) cpu phase has.below in
-    record {
-      command = ap (λ q. command_of g.plan cpu q.place) here ∙ has.command;
-      phase_is = ap (λ q. q.phase) here;
-    }
+use Rattle.guest_rules.proofs.SyncSteps.{sync_step, sync_never_again}
+use Rattle.guest_rules.proofs.Ranks.{NotSync, needs-not_sync, Rank, has_command, served, has_page, fills_own, has_none, start_rank, rank_of, rank-none, rank-lost, rank-unserved, rank-fills}
 
 -- a free page is one of the guest's
 free_below : (g : GuestState) (v : StorageView) (d : DiskView) (page : ℕ) (rest : List ℕ) → Fit g v d → g.parts.pages.free ≡ page ∷ rest → page < length g.parts.pages.infos
@@ -118,17 +104,25 @@ resolved_rank g v w d cpu op tag writes slot off page found after left f starts 
         let shown = shows_at _ g.parts slot (off / PAGE) tag f.slots its.mapped in
         place_below slot (off / PAGE) (length g.parts.maps.entries) (rw f.slots.slots at its.slot_below) (omega (arith, shown.below, shown.few)) f.slots.entries
 
-filled_rank : (g : GuestState) (v w : StorageView) (d : DiskView) (cpu : ℕ) (op : Op) (page left : ℕ) → Fit g v d → Has g cpu op → is_lost (w.values page).contents ≡ false
+filled_rank : (g : GuestState) (v w : StorageView) (d : DiskView) (cpu : ℕ) (op : Op) (page left : ℕ) → Fit g v d → Has g cpu op → NotSync op → is_lost (w.values page).contents ≡ false
     → ((tag : Tag) × Wants g cpu op tag × ((info_at g.parts.pages page).tag ≡ Some tag) × (3 ≤ suc left)) ⊎ (6 ≤ suc left)
     → Rank (with_phase (with_parts g (filled g.parts page)) cpu Start) w cpu left
 unfolding with_phase
-filled_rank g v w d cpu op page left f has there (inl (tag, wants, tagged, h)) =
+filled_rank g v w d cpu op page left f has not_sync there (inl (tag, wants, tagged, h)) =
     let at = at_phase g cpu op (filled g.parts page) Start has in
     has_command op at.command
     (has_page (record { start = at.phase_is; tag = tag; page = page; wants = wanted-same g.parts (filled g.parts page) (process_of g.plan cpu) op refl ∙ wants; found = (f.pages.indexed page tag tagged).1; lost_is = there }) (omega (arith, h)))
-filled_rank g v w d cpu op page left f has there (inr h) =
+filled_rank g v w d cpu op page left f has not_sync there (inr h) =
     let at = at_phase g cpu op (filled g.parts page) Start has in
-    has_command op at.command (start_rank _ w cpu op left at.phase_is (omega (arith, h)))
+    has_command op at.command (start_rank _ w cpu op left at.phase_is not_sync (omega (arith, h)))
+
+-- a sync fills no page
+fills_not_sync : (g : GuestState) (v : StorageView) (d : DiskView) (cpu : ℕ) (op : Op) (page : ℕ) → Fit g v d → Has g cpu op → (processor_at g cpu).phase ≡ Fill page → NotSync op
+fills_not_sync g v d cpu op page f has phase =
+    let k = (f.locks.filling cpu page phase).1 in
+    let both : Some k.op ≡ Some op = sym k.command ∙ has.command in
+    let same : k.op ≡ op = cc in
+    needs-not_sync op (subst NeedsPage same k.needs)
 
 -- a turn that moved leaves fewer turns
 pub rank_step : (g : GuestState) (v w : StorageView) (d e : DiskView) (cpu left : ℕ) (h : GuestState) → Fit g v d → v.quiet ≡ true → TurnCase g cpu v d h Moved w e
@@ -148,17 +142,20 @@ rank_step g v w d e cpu left h f quiet (was_gone op tag page found starts wants 
     let at_page = (f.pages.indexed page tag has.tagged).1 in
     rw eh (gone_rank g w cpu op tag page left starts wants has (omega (arith, rank-lost g v cpu op tag page (suc left) starts.start wants at_page before rank')))
 rank_step g v w d e cpu left h f quiet (was_read file off len page found all after starts has back may are told eh et) rank = absurd (cc et)
-rank_step g v w d e cpu left h f quiet (read_failed file off len page found after starts has back may told eh et risen) rank = absurd (cc et)
+rank_step g v w d e cpu left h f quiet (was_written file off bytes page found all starts has back may are value eh et) rank = absurd (cc et)
+rank_step g v w d e cpu left h f quiet (touch_failed op tag page found after needs starts wants has back may told eh et risen) rank = absurd (cc et)
 rank_step g v w d e cpu left h f quiet (was_resolved op tag writes slot off page found after starts wants maps has can back may told eh et) rank =
     let rank' = rank_of g v cpu op (suc left) starts.has.command rank in
     rw eh (resolved_rank g v w d cpu op tag writes slot off page found after left f starts wants maps has told (omega (arith, rank-unserved g v cpu op tag writes slot off (suc left) wants maps can rank')))
 rank_step g v w d e cpu left h f quiet (was_loaded number off len slot page writable all starts at_slot at are eh et may) rank = absurd (cc et)
 rank_step g v w d e cpu left h f quiet (was_stored number off bytes slot page found all starts at_slot at back may are value eh et) rank = absurd (cc et)
+rank_step g v w d e cpu left h f quiet (was_pinned pins number index slot tag page found after starts wants at has back may told eh et) rank = absurd (cc et)
 rank_step g v w d e cpu left h f quiet (entry_failed op writes slot off starts maps eh et may risen) rank = absurd (cc et)
 rank_step g v w d e cpu left h f quiet (fill_failed op page cause has phase eh et back unused why) rank = absurd (cc et)
 rank_step g v w d e cpu left h f quiet (was_filled op page tag has phase tagged eh et back value) rank =
     let rank' = rank_of g v cpu op (suc left) has.command rank in
-    rw eh (filled_rank g v w d cpu op page left f has (ap (λ q. is_lost q.contents) value) (rank-fills g v cpu op page (suc left) phase rank'))
+    rw eh (filled_rank g v w d cpu op page left f has (fills_not_sync g v d cpu op page f has phase) (ap (λ q. is_lost q.contents) value) (rank-fills g v cpu op page (suc left) phase rank'))
+rank_step g v w d e cpu left h f quiet (was_sync file index k) rank = sync_step g v w d e cpu file index left h f k rank
 
 -- and no turn has to be taken again
 pub never_again : (g : GuestState) (v w : StorageView) (d e : DiskView) (cpu : ℕ) (h : GuestState) (why : Why) → v.quiet ≡ true → TurnCase g cpu v d h (Again why) w e → ⊥
@@ -171,10 +168,13 @@ never_again g v w d e cpu h why quiet (missed_rehinted why' op tag page found af
 never_again g v w d e cpu h why quiet (was_begun op tag page rest found starts wants none free eh et back may value) = cc et
 never_again g v w d e cpu h why quiet (was_gone op tag page found starts wants has eh et back may lost unused same) = cc et
 never_again g v w d e cpu h why quiet (was_read file off len page found all after starts has back may are told eh et) = cc et
-never_again g v w d e cpu h why quiet (read_failed file off len page found after starts has back may told eh et risen) = cc et
+never_again g v w d e cpu h why quiet (was_written file off bytes page found all starts has back may are value eh et) = cc et
+never_again g v w d e cpu h why quiet (touch_failed op tag page found after needs starts wants has back may told eh et risen) = cc et
 never_again g v w d e cpu h why quiet (was_resolved op tag writes slot off page found after starts wants maps has can back may told eh et) = cc et
 never_again g v w d e cpu h why quiet (was_loaded number off len slot page writable all starts at_slot at are eh et may) = cc et
 never_again g v w d e cpu h why quiet (was_stored number off bytes slot page found all starts at_slot at back may are value eh et) = cc et
+never_again g v w d e cpu h why quiet (was_pinned pins number index slot tag page found after starts wants at has back may told eh et) = cc et
 never_again g v w d e cpu h why quiet (entry_failed op writes slot off starts maps eh et may risen) = cc et
 never_again g v w d e cpu h why quiet (fill_failed op page cause has phase eh et back unused why') = cc et
 never_again g v w d e cpu h why quiet (was_filled op page tag has phase tagged eh et back value) = cc et
+never_again g v w d e cpu h why quiet (was_sync file index k) = sync_never_again g v w d e cpu file index h why quiet k

@@ -1,17 +1,18 @@
 -- What a page that was taken is found to be, and how it is given back.
-use Rattle.std.specs.Prelude.{◌≡◌, ◌≢◌, ◌≤◌, ℕ, true, false, None, Ok}
+use Rattle.std.specs.Prelude.{◌≡◌, ◌≢◌, ◌≤◌, ℕ, List, true, false, None, Ok}
 use Rattle.std.proofs.Common.{arith, sym, ap, ◌∙◌}
 use Rattle.cmm_types.specs.declared.page.Usage.TheVariants.{S, U}
 use Rattle.cmm_io.specs.Faults.{HasRisen}
 use Rattle.cmm_io.specs.DiskView.{DiskView}
-use Rattle.essa_state.specs.PageValue.{PageValue, IsMadeUnused, MayBecome, is_lost, is_blank}
-use Rattle.cmm_storage.specs.StorageView.{StorageView, Keeps, Misses}
+use Rattle.essa_state.specs.PageValue.{PageValue, Bytes, IsMadeUnused, MayBecome, is_lost, is_blank}
+use Rattle.cmm_storage.specs.StorageView.{StorageView, Follows, Keeps, Misses, touched_contents}
+use Rattle.cmm_storage.specs.StorageCall.{Touch}
 use Rattle.cmm_storage.specs.Program.{done, put_page, bind}
 use Rattle.cmm_storage.specs.Views.{Seen, Keeps-trans, Keeps-may}
 use Rattle.guest_rules.specs.declared.parts.Parts.{Parts}
 use Rattle.guest_rules.specs.Rows.{handled, rehint, with_change}
 use Rattle.guest_rules.proofs.TurnCases.{GivenBack, AllMay, IsRehinted}
-use Rattle.guest_rules.proofs.Values.{filled_may}
+use Rattle.guest_rules.proofs.Values.{filled_may, touched_same}
 use Rattle.guest_rules.proofs.Held.{Stabled, IsHandled, IsUsed, rehinted_value, seen_settle}
 
 -- one page was held and given back, and may have changed as the host may change it
@@ -102,6 +103,25 @@ stable_taken parts page v m n d y after can taken (stays, tables, there, value) 
 -- the same after a call that left the page's value
 pub stable_same : (page : ℕ) (found : PageValue) (v n m : StorageView) → IsStable page found v n → Keeps n page m → m.values page ≡ n.values page → IsStable page found v m
 stable_same page found v n m x keeps same = record { keeps = Keeps-trans v n m page x.keeps keeps; may = x.may; there = x.there; filled = x.filled; value = same ∙ x.value }
+
+-- a stable page that was touched has its bytes
+pub record IsTouched (page : ℕ) (found : PageValue) (v m : StorageView) : Type 0 where
+  pub stable : IsStable page found v m
+  pub all : List ℕ
+  pub are : found.contents ≡ Bytes all
+  pub here : (m.values page).contents ≡ Bytes all
+
+pub touched_stable : (page : ℕ) (found : PageValue) (v n m : StorageView) → v.tells ≡ true → IsStable page found v n → Follows n (Touch page (Ok tt)) m → IsTouched page found v m
+touched_stable page found v n m tells x (keeps, nothing, holds, there, value, whole) =
+    let contents : touched_contents n.tells (n.values page).contents ≡ (n.values page).contents = touched_same n.tells (n.values page).contents (ap (λ q. is_blank q.contents) x.value ∙ x.filled) there in
+    let same : m.values page ≡ n.values page = value ∙ ap (λ q. record (n.values page) { contents = q }) contents in
+    let all = whole (x.keeps.tells ∙ tells) in
+    record {
+      stable = stable_same page found v n m x keeps same;
+      all = all.all;
+      are = ap (λ q. q.contents) (sym x.value) ∙ ap (λ q. q.contents) (sym same) ∙ all.are;
+      here = all.are;
+    }
 
 -- the page was there, its hint was told again, and it was given back
 pub record WasThere (parts : Parts) (page : ℕ) (found : PageValue) (v : StorageView) (d : DiskView) (a : Parts) (w : StorageView) (e : DiskView) : Type 0 where

@@ -38,7 +38,7 @@ pub plan-turn : (g : GuestState) (cpu : ℕ) (v : StorageView) (d : DiskView) (h
     → Fit g v d → cpu < length g.processors → Seen {A = GuestState × Turn} (turn g cpu) v d (h, t) w e → h.plan ≡ g.plan
 plan-turn g cpu v d h t w e f below run = plan_kept g v w d e cpu h t (turn_case (flat_of g.plan g.journal) g v w d e cpu h t f below run)
 
--- a processor that goes on alone over a storage that never misses stops within 12 turns, and for a cause
+-- a processor that goes on alone over a storage that never misses stops within the turns that its command may take, and for a cause
 pub Causes-alone : (g : GuestState) (cpu : ℕ) (v : StorageView) (d : DiskView) (h : GuestState) (a : Alone) (w : StorageView) (e : DiskView)
     → v.quiet ≡ true → Fit g v d → cpu < length g.processors → Seen {A = GuestState × Alone} (alone g cpu) v d (h, a) w e → AloneCause g v d cpu a h w e
 Causes-alone g cpu v d h a w e quiet f below run = alone_causes (λ g v w d e cpu h t. Fit-turn g cpu v d h t w e) g h v w d e cpu a quiet f below run

@@ -28,6 +28,11 @@ pub hint-stale : (info : PageInfo) (tag : Tag) → info.tag ≡ Some tag → inf
 unfolding hint
 hint-stale info tag e stale = rw (e, stale) refl
 
+-- a page that is dirty is stable
+pub hint-dirty : (info : PageInfo) (tag : Tag) → info.tag ≡ Some tag → info.dirty ≡ true → hint info ≡ S
+unfolding hint
+hint-dirty info tag tagged dirty = grind arith
+
 pub may-usage : (x y : PageValue) → MayBecome x y → y.usage ≡ x.usage
 may-usage x y (inl e) = ap (λ (z : PageValue). z.usage) e
 may-usage x y (inr (inl d)) = ap (λ (z : PageValue). z.usage) d.value

@@ -1,16 +1,25 @@
 -- A processor's turns up to the first that didn't move.
-use Rattle.std.specs.Prelude.{ℕ, zero, suc, ◌+◌}
+use Rattle.std.specs.Prelude.{ℕ, zero, suc, ◌+◌, ◌*◌}
+use Rattle.cmm_types.specs.declared.plan.TheConstants.{MAX_FILE_PAGES}
+use Rattle.cmm_types.specs.declared.plan.GuestPlan.{GuestPlan}
+use Rattle.cmm_types.specs.declared.command.Op.{Op}
+use Rattle.cmm_types.specs.declared.command.Op.TheVariants.{Sync}
 use Rattle.cmm_types.specs.declared.turn.Turn.{Turn}
 use Rattle.cmm_types.specs.declared.turn.Turn.TheVariants.{Moved, Finished, Waits, Again, Idle}
 use Rattle.cmm_types.specs.declared.turn.Alone.{Alone}
 use Rattle.cmm_types.specs.declared.turn.Alone.TheVariants.{Finished as AloneFinished, Waits as AloneWaits, Idle as AloneIdle}
 use Rattle.cmm_storage.specs.Program.{Program, done, bind}
 use Rattle.guest_rules.specs.GuestState.{GuestState}
-use Rattle.guest_rules.specs.Turns.{turn}
+use Rattle.guest_rules.specs.Turns.{file_pages, turn}
 
--- so many turns are a command's at most, over a storage that never misses
-abbrev pub most_turns : ℕ
-most_turns = 12
+-- so many turns a command takes at most, over a storage that never misses: 12, and a sync 3 more for each page of its file
+abbrev pub turns_of : GuestPlan → Op → ℕ
+turns_of plan (Sync file) = 12 + 3 * file_pages plan.files file
+turns_of plan op = 12
+
+-- and so many any command of any plan
+unfoldable pub most_turns : ℕ
+most_turns = 12 + 3 * MAX_FILE_PAGES
 
 -- what follows a turn: the next where it moved. A storage that never misses never answers `Again`
 abbrev pub alone_after : (GuestState → Program (GuestState × Alone)) → ℕ → GuestState → Turn → Program (GuestState × Alone)

@@ -1,21 +1,21 @@
 -- What stands between any two turns of a guest, its pages' values and its disk.
-use Rattle.std.specs.Prelude.{◌≡◌, ◌<◌, ◌≤◌, ℕ, zero, suc, ◌+◌, ◌*◌, List, [], length, map, sum, sum_by, Bool, true, false, Option, Some, None, Contains, slice_get, slice_index_or}
+use Rattle.std.specs.Prelude.{◌≡◌, ◌<◌, ◌≤◌, ◌==◌, ◌&&◌, ℕ, zero, suc, ◌+◌, ◌*◌, List, [], length, map, sum, sum_by, Bool, true, false, Option, Some, None, Contains, slice_get, slice_index_or, ◌⊎◌}
 use Rattle.std.specs.FinMap as finite
+use Rattle.std.specs.List.{range_with_len}
 use Rattle.cmm_types.specs.declared.page.TheConstants.{PAGE}
 use Rattle.cmm_types.specs.declared.page.Usage.TheVariants.{V}
 use Rattle.cmm_types.specs.declared.page.Tag.{Tag}
-use Rattle.cmm_types.specs.declared.page.Tag.TheVariants.{File}
+use Rattle.cmm_types.specs.declared.page.Tag.TheVariants.{File, Anon as AnonTag}
 use Rattle.cmm_types.specs.declared.plan.TheConstants.{MAX_MAPPING_SLOTS}
 use Rattle.cmm_types.specs.declared.command.TheConstants.{MAX_MAPPING_PAGES}
 use Rattle.cmm_types.specs.declared.command.Op.{Op}
-use Rattle.cmm_types.specs.declared.command.Op.TheVariants.{Read, Load, Store}
+use Rattle.cmm_types.specs.declared.command.Op.TheVariants.{Read, Write, Load, Store, Pin, Sync}
 use Rattle.cmm_types.specs.declared.plan.CpuPlan.{CpuPlan}
 use Rattle.cmm_types.specs.declared.plan.GuestPlan.{GuestPlan}
 use Rattle.cmm_types.specs.InRange.{GuestInRange, blocks_of}
 use Rattle.cmm_flat.specs.declared.mapping.Mapping.{Mapping}
 use Rattle.cmm_flat.specs.declared.mapping.Shown.{Shown as FlatShown}
 use Rattle.cmm_flat.specs.declared.mapping.Shown.TheVariants.{OfFile as FlatFile, Anonymous}
-use Rattle.cmm_flat.specs.Flat.{none_pinned}
 use Rattle.cmm_flat.specs.Bytes.{bytes_at, zeros as flat_zeros}
 use Rattle.cmm_flat.specs.State.{FlatState, mapping_at, file_at}
 use Rattle.cmm_flat.specs.Legal.{Legal, flat_of, walk_of, start_of, progress_of, command_of}
@@ -28,12 +28,12 @@ use Rattle.guest_maps.specs.declared.slot.Pte.{Pte}
 use Rattle.guest_maps.specs.declared.slot.Slot.{Slot}
 use Rattle.guest_maps.specs.declared.slot.Shown.{Shown}
 use Rattle.guest_maps.specs.declared.slot.Shown.TheVariants.{File as OfFile, Anon}
-use Rattle.guest_maps.specs.MapsView.{MapsView, slot_at, find_slot, live_slots, entry_at, tag_at, writers_showing, IsPlace}
+use Rattle.guest_maps.specs.MapsView.{MapsView, slot_at, find_slot, live_slots, entry_at, pinned_at, tag_at, writers_showing, IsPlace, one_if}
 use Rattle.guest_rules.specs.declared.parts.Parts.{Parts}
-use Rattle.guest_rules.specs.declared.processor.Phase.TheVariants.{Fill}
+use Rattle.guest_rules.specs.declared.processor.Phase.TheVariants.{Fill, Sync as AtSync, SyncWrite}
 use Rattle.guest_rules.specs.Hint.{hint}
 use Rattle.guest_rules.specs.GuestState.{GuestState, processor_at}
-use Rattle.guest_rules.specs.Turns.{slot_writable}
+use Rattle.guest_rules.specs.Turns.{slot_writable, file_pages}
 use Rattle.guest_rules.specs.Built.{GuestIsBuilt}
 
 -- the tables, the storage and the disk are of the plan's sizes
@@ -58,18 +58,25 @@ pub record PagesFit (parts : Parts) : Type 0 where
   pub indexed : (page : ℕ) (tag : Tag) → (info_at parts.pages page).tag ≡ Some tag → IsTag parts.cache tag × (page_of parts.cache tag ≡ Some page)
   pub found : (page : ℕ) (tag : Tag) → IsTag parts.cache tag → page_of parts.cache tag ≡ Some page → (page < length parts.pages.infos) × ((info_at parts.pages page).tag ≡ Some tag)
 
--- what the flat machine has of the mapping in a slot. Nothing is pinned yet
-abbrev pub flat_mapping : Option Slot → Option Mapping
-flat_mapping None = None
-flat_mapping (Some slot) = Some (record { shown = flat_shown slot.shown slot.count; pins = none_pinned slot.count })
-  where
-    flat_shown : Shown → ℕ → FlatShown
-    flat_shown (OfFile file first writable) count = FlatFile file first writable
-    flat_shown Anon count = Anonymous (flat_zeros (PAGE * count))
+-- which of so many pages of the mapping in a slot are pinned
+abbrev pub pins_of : MapsView → (slot count : ℕ) → List Bool
+pins_of maps slot count = map (pinned_at maps slot) (range_with_len 0 count)
 
-abbrev pub slot_found : MapsView → Option ℕ → Option Slot
-slot_found maps None = None
-slot_found maps (Some slot) = slot_at maps slot
+-- what the flat machine has of the mapping in a slot
+abbrev pub flat_shown : Shown → (count : ℕ) → FlatShown
+flat_shown (OfFile file first writable) count = FlatFile file first writable
+flat_shown Anon count = Anonymous (flat_zeros (PAGE * count))
+
+abbrev pub flat_slot : MapsView → ℕ → Slot → Mapping
+flat_slot maps slot mapping = record { shown = flat_shown mapping.shown mapping.count; pins = pins_of maps slot mapping.count }
+
+abbrev pub flat_mapping : MapsView → ℕ → Option Slot → Option Mapping
+flat_mapping maps slot None = None
+flat_mapping maps slot (Some mapping) = Some (flat_slot maps slot mapping)
+
+abbrev pub flat_found : MapsView → Option ℕ → Option Mapping
+flat_found maps None = None
+flat_found maps (Some slot) = flat_mapping maps slot (slot_at maps slot)
 
 -- what the mapping in a slot shows is there: pages of a file, and no page of its own yet
 abbrev pub ShowsFile : CacheView → Slot → Type 0
@@ -79,13 +86,16 @@ ShowsFile cache slot = (file : ℕ) × (first : ℕ) × (writable : Bool) × (sl
 pub record SlotsFit (state : FlatState) (parts : Parts) : Type 0 where
   pub slots : length parts.maps.slots ≡ MAX_MAPPING_SLOTS
   pub entries : length parts.maps.entries ≡ MAX_MAPPING_SLOTS * MAX_MAPPING_PAGES
+  pub pinned : length parts.maps.pinned ≡ MAX_MAPPING_SLOTS * MAX_MAPPING_PAGES
   pub pages : parts.maps.pages ≡ length parts.pages.infos
   pub live : (slot : ℕ) (mapping : Slot) → slot_at parts.maps slot ≡ Some mapping → mapping.live ≡ true
   pub apart : (slot other : ℕ) (mapping another : Slot) → slot_at parts.maps slot ≡ Some mapping → slot_at parts.maps other ≡ Some another → mapping.process ≡ another.process
       → mapping.map ≡ another.map → slot ≡ other
-  pub flat : (process number : ℕ) → mapping_at state process number ≡ flat_mapping (slot_found parts.maps (find_slot parts.maps process number))
+  pub flat : (process number : ℕ) → mapping_at state process number ≡ flat_found parts.maps (find_slot parts.maps process number)
   pub counted : finite.len state.mappings ≡ live_slots parts.maps
   pub shown : (slot : ℕ) (mapping : Slot) → slot_at parts.maps slot ≡ Some mapping → (mapping.count ≤ MAX_MAPPING_PAGES) × ShowsFile parts.cache mapping
+  -- what is pinned is a page of a mapping, so a new mapping begins with none pinned
+  pub placed : (slot index : ℕ) → index < MAX_MAPPING_PAGES → pinned_at parts.maps slot index ≡ true → IsPlace parts.maps slot index
 
 -- the page with the tag of the entry's place is up to date, and the entry allows stores only where the mapping does
 pub record IsEntry (parts : Parts) (slot index : ℕ) (pte : Pte) : Type 0 where
@@ -101,16 +111,53 @@ pub record EntriesFit (parts : Parts) : Type 0 where
   pub entry : (slot index : ℕ) (pte : Pte) → index < MAX_MAPPING_PAGES → entry_at parts.maps slot index ≡ Some pte → IsEntry parts slot index pte
   pub writers : (page : ℕ) → (info_at parts.pages page).writers ≡ writers_showing parts.maps page
 
--- pins, and tags of anonymous pages: there is none yet
+-- the sum of a number over the numbers below a count
+abbrev pub sum_below : (ℕ → ℕ) → ℕ → ℕ
+sum_below number zero = 0
+sum_below number (suc count) = sum_below number count + number count
+
+abbrev pub same_tag : Tag → Tag → Bool
+same_tag (File file index) (File other at) = file == other && index == at
+same_tag (File file index) (AnonTag other at) = false
+same_tag (AnonTag slot index) (File other at) = false
+same_tag (AnonTag slot index) (AnonTag other at) = slot == other && index == at
+
+abbrev pub is_tag_of : Option Tag → Tag → Bool
+is_tag_of None tag = false
+is_tag_of (Some its) tag = same_tag its tag
+
+-- one where the place is pinned and maps the tag
+abbrev pub pin_on : MapsView → Tag → (slot index : ℕ) → ℕ
+pin_on maps tag slot index = one_if (pinned_at maps slot index && is_tag_of (tag_at maps slot index) tag)
+
+-- how many of the first pages of the first slots are so
+unfoldable pub pins_within : MapsView → Tag → (slots pages : ℕ) → ℕ
+pins_within maps tag slots pages = sum_below (λ slot. sum_below (pin_on maps tag slot) pages) slots
+
+-- how many pinned places map a tag
+abbrev pub pins_on : MapsView → Tag → ℕ
+pins_on maps tag = pins_within maps tag (length maps.slots) MAX_MAPPING_PAGES
+
+-- a page has the tag, and is up to date
+pub record IsKept (parts : Parts) (tag : Tag) : Type 0 where
+  pub page : ℕ
+  pub there : page_of parts.cache tag ≡ Some page
+  pub uptodate : (info_at parts.pages page).uptodate ≡ true
+
+-- pins: a page has as many as there are pinned places that map its tag, and the tag of each pinned place is on a page that is up to
+-- date. Tags of anonymous pages: there is none yet
 pub record PinsFit (parts : Parts) : Type 0 where
-  pub unpinned : (page : ℕ) → (info_at parts.pages page).pins ≡ 0
+  pub counted : (page : ℕ) (tag : Tag) → (info_at parts.pages page).tag ≡ Some tag → (info_at parts.pages page).pins ≡ pins_on parts.maps tag
+  pub kept : (slot index : ℕ) (tag : Tag) → index < MAX_MAPPING_PAGES → pinned_at parts.maps slot index ≡ true → tag_at parts.maps slot index ≡ Some tag → IsKept parts tag
   pub of_files : (page : ℕ) (tag : Tag) → (info_at parts.pages page).tag ≡ Some tag → (file : ℕ) × (index : ℕ) × (tag ≡ File file index)
 
--- a command that needs a page: it reads, loads or stores
+-- a command that needs a page: it reads, writes, loads, stores or pins. One that unpins doesn't, since its page is there
 abbrev pub NeedsPage : Op → Type 0
 NeedsPage (Read file off len) = Unit {0}
+NeedsPage (Write file off bytes) = Unit {0}
 NeedsPage (Load number off len) = Unit {0}
 NeedsPage (Store number off bytes) = Unit {0}
+NeedsPage (Pin number index) = Unit {0}
 NeedsPage op = ⊥
 
 -- a processor that fills a page has a command that needs one
@@ -124,11 +171,34 @@ pub record IsFilling (g : GuestState) (cpu page : ℕ) : Type 0 where
   pub tag : Tag
   pub tagged : (info_at g.parts.pages page).tag ≡ Some tag
 
--- locks: a page is locked by a processor exactly where that processor fills it; a tagged page isn't up to date exactly there
+-- a processor whose sync is at a page of its file
+pub record IsSyncing (g : GuestState) (cpu file index : ℕ) : Type 0 where
+  pub cpu_below : cpu < length g.processors
+  pub command : command_of g.plan cpu (processor_at g cpu).place ≡ Some (Sync file)
+  pub file_below : file < length g.plan.files
+  pub within : index < file_pages g.plan.files file
+
+-- a processor whose sync writes the file's page back from a page that it has locked
+pub record IsWriting (g : GuestState) (cpu index page : ℕ) : Type 0 where
+  pub file : ℕ
+  pub syncing : IsSyncing g cpu file index
+  pub below : page < length g.parts.pages.infos
+  pub owner : (info_at g.parts.pages page).owner ≡ Some cpu
+  pub tagged : (info_at g.parts.pages page).tag ≡ Some (File file index)
+  pub uptodate : (info_at g.parts.pages page).uptodate ≡ true
+
+-- the processor fills the page, or writes it back
+abbrev pub HasLocked : GuestState → (cpu page : ℕ) → Type 0
+HasLocked g cpu page = ((processor_at g cpu).phase ≡ Fill page) ⊎ ((index : ℕ) × ((processor_at g cpu).phase ≡ SyncWrite index page))
+
+-- locks: a page is locked by a processor exactly where that processor fills it or writes it back; a tagged page isn't up to date exactly
+-- where it is filled
 pub record LocksFit (g : GuestState) : Type 0 where
   pub stale_clean : (page : ℕ) → (info_at g.parts.pages page).uptodate ≡ false → (info_at g.parts.pages page).dirty ≡ false
   pub filling : (cpu page : ℕ) → (processor_at g cpu).phase ≡ Fill page → (cpu < length g.processors) × IsFilling g cpu page
-  pub locked : (cpu page : ℕ) → (info_at g.parts.pages page).owner ≡ Some cpu → (processor_at g cpu).phase ≡ Fill page
+  pub syncing : (cpu index : ℕ) → (processor_at g cpu).phase ≡ AtSync index → (file : ℕ) × IsSyncing g cpu file index
+  pub writing : (cpu index page : ℕ) → (processor_at g cpu).phase ≡ SyncWrite index page → IsWriting g cpu index page
+  pub locked : (cpu page : ℕ) → (info_at g.parts.pages page).owner ≡ Some cpu → HasLocked g cpu page
   pub stale : (page : ℕ) (tag : Tag) → (info_at g.parts.pages page).tag ≡ Some tag → (info_at g.parts.pages page).owner ≡ None → (info_at g.parts.pages page).uptodate ≡ true
 
 -- hints: every page's usage is its hint, and a volatile page isn't changed
@@ -202,11 +272,6 @@ pub record JournalFit (g : GuestState) : Type 0 where
   pub within : (cpu : ℕ) → cpu < length g.processors → (processor_at g cpu).place ≤ commands_of g.plan cpu
   pub counted : length g.journal ≡ sum_by (λ processor. processor.place) g.processors
 
--- the sum of a number over the pages below a count
-abbrev pub over_pages : (ℕ → ℕ) → ℕ → ℕ
-over_pages number zero = 0
-over_pages number (suc count) = over_pages number count + number count
-
 abbrev pub one_if_lost : PageValue → ℕ
 one_if_lost value = of value.contents
   where
@@ -217,7 +282,7 @@ one_if_lost value = of value.contents
 
 -- faults: the handled pages and the lost ones are together at most the discards counted
 abbrev pub FaultsFit : Parts → StorageView → Type 0
-FaultsFit parts v = parts.faults + over_pages (λ page. one_if_lost (v.values page)) v.pages ≤ over_pages (λ page. (v.values page).count) v.pages
+FaultsFit parts v = parts.faults + sum_below (λ page. one_if_lost (v.values page)) v.pages ≤ sum_below (λ page. (v.values page).count) v.pages
 
 pub record FitAt (state : FlatState) (g : GuestState) (v : StorageView) (d : DiskView) : Type 0 where
   pub sizes : SizesFit g v d

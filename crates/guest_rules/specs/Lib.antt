@@ -1,5 +1,6 @@
 pub mod Hint
 pub mod Rows
+pub mod Syncs
 pub mod GuestState
 pub mod Turns
 pub mod Alone
@@ -7,3 +8,5 @@ pub mod Built
 pub mod Fit
 pub mod Cause
 pub mod Fresh
+pub mod Failures
+pub mod FlatReplies

@@ -1,5 +1,5 @@
 -- What a turn does to one page, as programs of calls. Each begins and ends with no page held, but the parts that say otherwise.
-use Rattle.std.specs.Prelude.{ℕ, ◌+◌, List, Bool, true, false, Option, Some, None, Result, Ok, Err}
+use Rattle.std.specs.Prelude.{ℕ, ◌+◌, ◌-◌, List, Bool, true, false, Option, Some, None, Result, Ok, Err}
 use Rattle.cmm_types.specs.declared.page.Tag.{Tag}
 use Rattle.cmm_types.specs.declared.page.Usage.{Usage}
 use Rattle.cmm_types.specs.declared.page.Usage.TheVariants.{S, U, P, V}
@@ -14,9 +14,9 @@ use Rattle.cmm_storage.specs.declared.storage.Trap.{Trap}
 use Rattle.cmm_storage.specs.declared.storage.Trap.TheVariants.{Discarded, Paging, NoFrame}
 use Rattle.cmm_storage.specs.StorageView.{zeros}
 use Rattle.cmm_storage.specs.Program.{Program, done, take_page, touch_page, order_page, take_change, fetch_page, store_page, put_page, read_block, bind}
-use Rattle.guest_pages.specs.PagesView.{free_info, info_at, with_info, with_uptodate, with_dirty, with_owner, with_writers, pushed}
+use Rattle.guest_pages.specs.PagesView.{free_info, info_at, with_info, with_uptodate, with_dirty, with_owner, with_pins, with_writers, pushed}
 use Rattle.guest_cache.specs.CacheView.{CacheView, without_page, backing_of}
-use Rattle.guest_maps.specs.MapsView.{with_entry, without_entries_of}
+use Rattle.guest_maps.specs.MapsView.{with_entry, without_entries_of, with_pinned}
 use Rattle.guest_rules.specs.declared.parts.Parts.{Parts}
 use Rattle.guest_rules.specs.declared.outcome.Gone.{Gone}
 use Rattle.guest_rules.specs.declared.outcome.Filled.{Filled}
@@ -101,6 +101,22 @@ read_taken parts page off len (Err busy) = done (parts, Err (MissedAgain (WasBus
 unfoldable pub read_page : Parts → ℕ → ℕ → ℕ → Program (Parts × Result (List ℕ) Missed)
 read_page parts page off len = take_page page (read_taken parts page off len)
 
+abbrev pub write_touched : ℕ → ℕ → List ℕ → Parts → Result Unit Trap → Program (Parts × Result Unit Missed)
+write_touched page off bytes parts (Ok u) = store_page page off bytes (bind (rehint (dirtied parts page) page) (λ after. put_page page (done (after, Ok tt))))
+write_touched page off bytes parts (Err trap) = bind (rehint parts page) (λ after. put_page page (done (after, Err (missed_by trap))))
+
+abbrev pub write_stable : ℕ → ℕ → List ℕ → Parts → Result Unit Gone → Program (Parts × Result Unit Missed)
+write_stable page off bytes parts (Ok u) = touch_page page (write_touched page off bytes parts)
+write_stable page off bytes parts (Err gone) = put_page page (done (parts, Err WasGone))
+
+abbrev pub write_taken : Parts → ℕ → ℕ → List ℕ → Result Unit Busy → Program (Parts × Result Unit Missed)
+write_taken parts page off bytes (Ok u) = bind (make_stable parts page) (λ went. write_stable page off bytes went.0 went.1)
+write_taken parts page off bytes (Err busy) = done (parts, Err (MissedAgain (WasBusy page busy.word)))
+
+-- bytes are written to a page with a tag that isn't locked, which is dirty from then on
+unfoldable pub write_page : Parts → ℕ → ℕ → List ℕ → Program (Parts × Result Unit Missed)
+write_page parts page off bytes = take_page page (write_taken parts page off bytes)
+
 -- how many writable entries one more entry is
 abbrev pub one_if : Bool → ℕ
 one_if true = 1
@@ -125,6 +141,31 @@ resolve_taken parts page slot index writable (Err busy) = done (parts, EntryAgai
 -- the entry at a place is set to show a page with the place's tag that isn't locked
 unfoldable pub resolve : Parts → (page slot index : ℕ) → (writable : Bool) → Program (Parts × Resolved)
 resolve parts page slot index writable = take_page page (resolve_taken parts page slot index writable)
+
+-- one pin more, or one less
+abbrev pub pins_after : (pins : Bool) → ℕ → ℕ
+pins_after true count = count + 1
+pins_after false count = count - 1
+
+-- the place is pinned and the page has one pin more, or the place isn't pinned any more and the page has one less
+unfoldable pub pinned : Parts → (page slot index : ℕ) → (pins : Bool) → Parts
+pinned parts page slot index pins =
+    record parts {
+      pages = with_pins parts.pages page (pins_after pins (info_at parts.pages page).pins);
+      maps = with_pinned parts.maps slot index pins;
+    }
+
+abbrev pub pin_stable : (page slot index : ℕ) → (pins : Bool) → Parts → Result Unit Gone → Program (Parts × Result Unit Missed)
+pin_stable page slot index pins parts (Ok u) = bind (rehint (pinned parts page slot index pins) page) (λ after. put_page page (done (after, Ok tt)))
+pin_stable page slot index pins parts (Err gone) = put_page page (done (parts, Err WasGone))
+
+abbrev pub pin_taken : Parts → (page slot index : ℕ) → (pins : Bool) → Result Unit Busy → Program (Parts × Result Unit Missed)
+pin_taken parts page slot index pins (Ok u) = bind (make_stable parts page) (λ went. pin_stable page slot index pins went.0 went.1)
+pin_taken parts page slot index pins (Err busy) = done (parts, Err (MissedAgain (WasBusy page busy.word)))
+
+-- a place is pinned or unpinned, whose tag is on a page that isn't locked. Nothing of the page is touched or read
+unfoldable pub pin_page : Parts → (page slot index : ℕ) → (pins : Bool) → Program (Parts × Result Unit Missed)
+pin_page parts page slot index pins = take_page page (pin_taken parts page slot index pins)
 
 -- a touch through an entry that failed: a discarded page goes through its handler
 abbrev pub touch_missed : {A : Type 0} → ℕ → Parts → Trap → Program (Parts × Result A Missed)

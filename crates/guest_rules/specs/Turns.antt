@@ -6,11 +6,11 @@ use Rattle.cmm_types.specs.declared.page.Tag.TheVariants.{File as FileTag}
 use Rattle.cmm_types.specs.declared.plan.TheConstants.{MAX_LIVE_MAPPINGS}
 use Rattle.cmm_types.specs.declared.plan.FilePlan.{FilePlan}
 use Rattle.cmm_types.specs.declared.command.Op.{Op}
-use Rattle.cmm_types.specs.declared.command.Op.TheVariants.{Read, MapFile, Load, Store}
+use Rattle.cmm_types.specs.declared.command.Op.TheVariants.{Read, Write, MapFile, Load, Store, Pin, Unpin, Sync}
 use Rattle.cmm_types.specs.declared.command.Reply.TheVariants.{Done as ReplyDone, Bytes, Refused, Fail}
 use Rattle.cmm_types.specs.declared.command.Cause.TheVariants.{NoPage}
 use Rattle.cmm_types.specs.declared.command.FlatRefusal.{FlatRefusal}
-use Rattle.cmm_types.specs.declared.command.FlatRefusal.TheVariants.{NoMapping, AlreadyMapped, OutOfRange, ReadOnly, TooManyMaps}
+use Rattle.cmm_types.specs.declared.command.FlatRefusal.TheVariants.{NoMapping, AlreadyMapped, OutOfRange, ReadOnly, Pinned, NotPinned, TooManyMaps}
 use Rattle.cmm_types.specs.declared.turn.Turn.{Turn}
 use Rattle.cmm_types.specs.declared.turn.Turn.TheVariants.{Moved, Finished, Waits, Again, Idle}
 use Rattle.cmm_types.specs.declared.turn.Why.TheVariants.{Busy as WasBusy}
@@ -24,10 +24,10 @@ use Rattle.guest_maps.specs.declared.slot.Pte.{Pte}
 use Rattle.guest_maps.specs.declared.slot.Shown.{Shown}
 use Rattle.guest_maps.specs.declared.slot.Shown.TheVariants.{File as OfFile}
 use Rattle.guest_maps.specs.declared.slot.Slot.{Slot}
-use Rattle.guest_maps.specs.MapsView.{MapsView, slot_at, find_slot, free_slot, live_slots, entry_at, tag_at, is_writable, with_mapping}
+use Rattle.guest_maps.specs.MapsView.{MapsView, slot_at, find_slot, free_slot, live_slots, entry_at, pinned_at, tag_at, is_writable, with_mapping}
 use Rattle.guest_rules.specs.declared.parts.Parts.{Parts}
 use Rattle.guest_rules.specs.declared.processor.Phase.{Phase}
-use Rattle.guest_rules.specs.declared.processor.Phase.TheVariants.{Start, Fill}
+use Rattle.guest_rules.specs.declared.processor.Phase.TheVariants.{Start, Fill, Sync as AtSync, SyncWrite}
 use Rattle.guest_rules.specs.declared.outcome.Filled.{Filled}
 use Rattle.guest_rules.specs.declared.outcome.Filled.TheVariants.{Done as FilledDone, Again as FilledAgain, Fail as FilledFail}
 use Rattle.guest_rules.specs.declared.outcome.Missed.{Missed}
@@ -35,7 +35,10 @@ use Rattle.guest_rules.specs.declared.outcome.Missed.TheVariants.{Gone as Missed
 use Rattle.guest_rules.specs.GuestState.{GuestState, processor_at, with_parts, with_phase, entered}
 use Rattle.guest_rules.specs.declared.outcome.Resolved.{Resolved}
 use Rattle.guest_rules.specs.declared.outcome.Resolved.TheVariants.{Mapped, Gone as EntryGone, Again as EntryAgain}
-use Rattle.guest_rules.specs.Rows.{read_page, load_page, store_through, resolve, fill}
+use Rattle.guest_rules.specs.Rows.{read_page, write_page, load_page, store_through, resolve, fill, pin_page}
+use Rattle.guest_rules.specs.declared.outcome.Synced.{Synced}
+use Rattle.guest_rules.specs.declared.outcome.Synced.TheVariants.{Clean, Locked, Gone as SyncGone, Waits as IsLocked, Again as SyncAgain}
+use Rattle.guest_rules.specs.Syncs.{sync_page, write_back}
 
 -- the pages of a file; none where there is no such file
 abbrev pub file_pages : List FilePlan → ℕ → ℕ
@@ -73,12 +76,29 @@ refusal_of_new g file first count None =
     then (if nat_le MAX_LIVE_MAPPINGS (live_slots g.parts.maps) then Some TooManyMaps else None)
     else Some OutOfRange
 
+-- a place is pinned once, and unpinned only where it is pinned
+abbrev pub refusal_of_pin : (pins is_pinned : Bool) → Option FlatRefusal
+refusal_of_pin true true = Some Pinned
+refusal_of_pin true false = None
+refusal_of_pin false true = None
+refusal_of_pin false false = Some NotPinned
+
+-- why a page of a mapping can't be pinned or unpinned
+abbrev pub refusal_of_pin_at : MapsView → (pins : Bool) → (index : ℕ) → Option ℕ → Option FlatRefusal
+refusal_of_pin_at maps pins index None = Some NoMapping
+refusal_of_pin_at maps pins index (Some slot) =
+    if nat_lt index (mapping_pages (slot_at maps slot)) then refusal_of_pin pins (pinned_at maps slot index) else Some OutOfRange
+
 -- why a command of a process is refused, as the tables say
 abbrev pub refusal_in : GuestState → (process : ℕ) → Op → Option FlatRefusal
 refusal_in g process (Read file off len) = if has_bytes g.plan.files file off len then None else Some OutOfRange
+refusal_in g process (Write file off bytes) = if has_bytes g.plan.files file off (length bytes) then None else Some OutOfRange
 refusal_in g process (MapFile number file first count writable) = refusal_of_new g file first count (find_slot g.parts.maps process number)
 refusal_in g process (Load number off len) = refusal_at g.parts.maps false off len (find_slot g.parts.maps process number)
 refusal_in g process (Store number off bytes) = refusal_at g.parts.maps true off (length bytes) (find_slot g.parts.maps process number)
+refusal_in g process (Pin number index) = refusal_of_pin_at g.parts.maps true index (find_slot g.parts.maps process number)
+refusal_in g process (Unpin number index) = refusal_of_pin_at g.parts.maps false index (find_slot g.parts.maps process number)
+refusal_in g process (Sync file) = if nat_lt file (length g.plan.files) then None else Some OutOfRange
 refusal_in g process op = None
 
 -- a free page gets a tag, and is locked by the processor that is to fill it
@@ -98,11 +118,20 @@ begin_taken g cpu tag page (Err busy) = done (g, Again (WasBusy page busy.word))
 unfoldable pub begin_turn : GuestState → ℕ → Tag → ℕ → Program (GuestState × Turn)
 begin_turn g cpu tag page = take_page page (begin_taken g cpu tag page)
 
+-- a command whose page wasn't reached
+abbrev pub missed_next : GuestState → ℕ → Op → Parts → Missed → Program (GuestState × Turn)
+missed_next g cpu op parts MissedGone = done (with_parts g parts, Moved)
+missed_next g cpu op parts (MissedAgain why) = done (with_parts g parts, Again why)
+missed_next g cpu op parts (MissedFail cause) = done (entered (with_parts g parts) cpu op (Fail cause), Finished)
+
 abbrev pub read_next : GuestState → ℕ → Op → Parts → Result (List ℕ) Missed → Program (GuestState × Turn)
 read_next g cpu op parts (Ok bytes) = done (entered (with_parts g parts) cpu op (Bytes bytes), Finished)
-read_next g cpu op parts (Err MissedGone) = done (with_parts g parts, Moved)
-read_next g cpu op parts (Err (MissedAgain why)) = done (with_parts g parts, Again why)
-read_next g cpu op parts (Err (MissedFail cause)) = done (entered (with_parts g parts) cpu op (Fail cause), Finished)
+read_next g cpu op parts (Err missed) = missed_next g cpu op parts missed
+
+-- a command that is answered `Done` once its page was reached
+abbrev pub done_next : GuestState → ℕ → Op → Parts → Result Unit Missed → Program (GuestState × Turn)
+done_next g cpu op parts (Ok u) = done (entered (with_parts g parts) cpu op ReplyDone, Finished)
+done_next g cpu op parts (Err missed) = missed_next g cpu op parts missed
 
 abbrev pub resolve_next : GuestState → Parts → Resolved → Program (GuestState × Turn)
 resolve_next g parts Mapped = done (with_parts g parts, Moved)
@@ -118,23 +147,28 @@ abbrev pub resolve_turn : GuestState → ℕ → (page number off : ℕ) → (wr
 resolve_turn g cpu page number off writable =
     resolve_in g page number off writable (process_of g.plan cpu) (find_slot g.parts.maps (process_of g.plan cpu) number)
 
+abbrev pub pin_in : GuestState → ℕ → Op → (page index : ℕ) → (pins : Bool) → Option ℕ → Program (GuestState × Turn)
+pin_in g cpu op page index pins None = done (g, Idle)
+pin_in g cpu op page index pins (Some slot) = bind (pin_page g.parts page slot index pins) (λ went. done_next g cpu op went.0 went.1)
+
+-- the command's page is to be pinned or unpinned
+abbrev pub pin_turn : GuestState → ℕ → Op → (page number index : ℕ) → (pins : Bool) → Program (GuestState × Turn)
+pin_turn g cpu op page number index pins = pin_in g cpu op page index pins (find_slot g.parts.maps (process_of g.plan cpu) number)
+
 -- the command finds its page up to date
 unfoldable pub use_turn : GuestState → ℕ → Op → ℕ → Program (GuestState × Turn)
 use_turn g cpu (Read file off len) page = bind (read_page g.parts page (off % PAGE) len) (λ went. read_next g cpu (Read file off len) went.0 went.1)
+use_turn g cpu (Write file off bytes) page = bind (write_page g.parts page (off % PAGE) bytes) (λ went. done_next g cpu (Write file off bytes) went.0 went.1)
 use_turn g cpu (Load number off len) page = resolve_turn g cpu page number off false
 use_turn g cpu (Store number off bytes) page = resolve_turn g cpu page number off true
+use_turn g cpu (Pin number index) page = pin_turn g cpu (Pin number index) page number index true
+use_turn g cpu (Unpin number index) page = pin_turn g cpu (Unpin number index) page number index false
 use_turn g cpu op page = done (g, Idle)
-
-abbrev pub store_next : GuestState → ℕ → Op → Parts → Result Unit Missed → Program (GuestState × Turn)
-store_next g cpu op parts (Ok u) = done (entered (with_parts g parts) cpu op ReplyDone, Finished)
-store_next g cpu op parts (Err MissedGone) = done (with_parts g parts, Moved)
-store_next g cpu op parts (Err (MissedAgain why)) = done (with_parts g parts, Again why)
-store_next g cpu op parts (Err (MissedFail cause)) = done (entered (with_parts g parts) cpu op (Fail cause), Finished)
 
 -- a load or a store finds its entry
 unfoldable pub hit_turn : GuestState → ℕ → Op → ℕ → Program (GuestState × Turn)
 hit_turn g cpu (Load number off len) page = bind (load_page g.parts page (off % PAGE) len) (λ went. read_next g cpu (Load number off len) went.0 went.1)
-hit_turn g cpu (Store number off bytes) page = bind (store_through g.parts page (off % PAGE) bytes) (λ went. store_next g cpu (Store number off bytes) went.0 went.1)
+hit_turn g cpu (Store number off bytes) page = bind (store_through g.parts page (off % PAGE) bytes) (λ went. done_next g cpu (Store number off bytes) went.0 went.1)
 hit_turn g cpu op page = done (g, Idle)
 
 -- no page has the tag. There is always a free one: the files' pages together are at most the guest's
@@ -168,18 +202,58 @@ abbrev pub start_mapped : GuestState → ℕ → Op → (writes : Bool) → (off
 start_mapped g cpu op writes off None = done (g, Idle)
 start_mapped g cpu op writes off (Some slot) = start_entry g cpu op writes slot (off / PAGE) (entry_at g.parts.maps slot (off / PAGE))
 
+-- a page of a mapping is to be pinned or unpinned, whatever its entry
+abbrev pub start_placed : GuestState → ℕ → Op → (index : ℕ) → Option ℕ → Program (GuestState × Turn)
+start_placed g cpu op index None = done (g, Idle)
+start_placed g cpu op index (Some slot) = start_at g cpu op (tag_at g.parts.maps slot index)
+
 -- the lowest free slot has the new mapping
 abbrev pub map_turn : GuestState → ℕ → Op → (number : ℕ) → Shown → (count : ℕ) → Option ℕ → Program (GuestState × Turn)
 map_turn g cpu op number shown count None = done (g, Idle)
 map_turn g cpu op number shown count (Some slot) =
     done (entered (with_parts g (record g.parts { maps = with_mapping g.parts.maps slot (process_of g.plan cpu) number shown count })) cpu op ReplyDone, Finished)
 
+-- a sync goes on behind page `index` of its file, which has so many pages, or is done
+abbrev pub passed : GuestState → ℕ → Op → (pages index : ℕ) → GuestState × Turn
+passed g cpu op pages index = if nat_lt (index + 1) pages then (with_phase g cpu (AtSync (index + 1)), Moved) else (entered g cpu op ReplyDone, Finished)
+
+abbrev pub sync_next : GuestState → ℕ → Op → (pages index page : ℕ) → Parts → Synced → Program (GuestState × Turn)
+sync_next g cpu op pages index page parts Clean = done (passed (with_parts g parts) cpu op pages index)
+sync_next g cpu op pages index page parts SyncGone = done (passed (with_parts g parts) cpu op pages index)
+sync_next g cpu op pages index page parts Locked = done (with_phase (with_parts g parts) cpu (SyncWrite index page), Moved)
+sync_next g cpu op pages index page parts (IsLocked owner) = done (with_parts g parts, Waits page owner)
+sync_next g cpu op pages index page parts (SyncAgain why) = done (with_parts g parts, Again why)
+
+-- where no page has the tag, its block has the bytes
+abbrev pub sync_found : GuestState → ℕ → Op → (pages index : ℕ) → Option ℕ → Program (GuestState × Turn)
+sync_found g cpu op pages index None = done (passed g cpu op pages index)
+sync_found g cpu op pages index (Some page) = bind (sync_page g.parts page cpu) (λ went. sync_next g cpu op pages index page went.0 went.1)
+
+-- a sync looks at page `index` of its file
+unfoldable pub sync_turn : GuestState → ℕ → Op → (index : ℕ) → Program (GuestState × Turn)
+sync_turn g cpu (Sync file) index = sync_found g cpu (Sync file) (file_pages g.plan.files file) index (page_of g.parts.cache (FileTag file index))
+sync_turn g cpu op index = done (g, Idle)
+
+abbrev pub written_next : GuestState → ℕ → Op → (pages index : ℕ) → Parts → Filled → Program (GuestState × Turn)
+written_next g cpu op pages index parts FilledDone = done (passed (with_parts g parts) cpu op pages index)
+written_next g cpu op pages index parts (FilledAgain why) = done (with_parts g parts, Again why)
+written_next g cpu op pages index parts (FilledFail cause) = done (entered (with_parts g parts) cpu op (Fail cause), Finished)
+
+-- a sync writes page `index` of its file back
+unfoldable pub write_back_turn : GuestState → ℕ → Op → (index page : ℕ) → Program (GuestState × Turn)
+write_back_turn g cpu (Sync file) index page = bind (write_back g.parts page) (λ went. written_next g cpu (Sync file) (file_pages g.plan.files file) index went.0 went.1)
+write_back_turn g cpu op index page = done (g, Idle)
+
 abbrev pub start_accepted : GuestState → ℕ → Op → Program (GuestState × Turn)
 start_accepted g cpu (Read file off len) = start_tagged g cpu (Read file off len) (FileTag file (off / PAGE))
+start_accepted g cpu (Write file off bytes) = start_tagged g cpu (Write file off bytes) (FileTag file (off / PAGE))
 start_accepted g cpu (MapFile number file first count writable) =
     map_turn g cpu (MapFile number file first count writable) number (OfFile file first writable) count (free_slot g.parts.maps)
 start_accepted g cpu (Load number off len) = start_mapped g cpu (Load number off len) false off (find_slot g.parts.maps (process_of g.plan cpu) number)
 start_accepted g cpu (Store number off bytes) = start_mapped g cpu (Store number off bytes) true off (find_slot g.parts.maps (process_of g.plan cpu) number)
+start_accepted g cpu (Pin number index) = start_placed g cpu (Pin number index) index (find_slot g.parts.maps (process_of g.plan cpu) number)
+start_accepted g cpu (Unpin number index) = start_placed g cpu (Unpin number index) index (find_slot g.parts.maps (process_of g.plan cpu) number)
+start_accepted g cpu (Sync file) = sync_turn g cpu (Sync file) 0
 start_accepted g cpu op = done (g, Idle)
 
 abbrev pub start_refused : GuestState → ℕ → Op → Option FlatRefusal → Program (GuestState × Turn)
@@ -202,6 +276,8 @@ fill_turn g cpu op page = bind (fill g.parts page) (λ went. fill_next g cpu op 
 abbrev pub turn_in : GuestState → ℕ → Op → Phase → Program (GuestState × Turn)
 turn_in g cpu op Start = start_turn g cpu op
 turn_in g cpu op (Fill page) = fill_turn g cpu op page
+turn_in g cpu op (AtSync index) = sync_turn g cpu op index
+turn_in g cpu op (SyncWrite index page) = write_back_turn g cpu op index page
 
 abbrev pub turn_on : GuestState → ℕ → Option Op → Program (GuestState × Turn)
 turn_on g cpu None = done (g, Idle)

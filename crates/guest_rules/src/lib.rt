@@ -6,6 +6,6 @@ mod outcome;
 mod parts;
 mod processor;
 
-pub use outcome::{Filled, Gone, Missed, Resolved};
+pub use outcome::{Filled, Gone, Missed, Resolved, Synced};
 pub use parts::Parts;
 pub use processor::{Phase, Processor};

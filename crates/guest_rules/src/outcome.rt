@@ -36,3 +36,18 @@ pub enum Resolved {
     /// The turn has to be taken again.
     Again { why: Why },
 }
+
+/// What became of a page that a sync looked at.
+#[derive(Clone, Copy, Debug, PartialEq, Eq)]
+pub enum Synced {
+    /// The page's block has its bytes.
+    Clean,
+    /// The page is dirty. It is locked by the processor, to be written back.
+    Locked,
+    /// The page had been discarded, and is free now. Its block has its bytes.
+    Gone,
+    /// Another processor has locked the page.
+    Waits { owner: u32 },
+    /// The turn has to be taken again.
+    Again { why: Why },
+}

@@ -5,6 +5,10 @@ pub enum Phase {
     Start,
     /// It fills a page that it has locked.
     Fill { page: u32 },
+    /// Its sync looks at page `index` of the file.
+    Sync { index: u32 },
+    /// Its sync writes page `index` of the file back from a page that it has locked.
+    SyncWrite { index: u32, page: u32 },
 }
 
 /// Where a processor is.

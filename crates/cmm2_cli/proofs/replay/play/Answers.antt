@@ -4,6 +4,7 @@ use Rattle.cmm_types.specs.InRange.{EventInRange}
 use Rattle.cmm_report.specs.Report.{report_of}
 use Rattle.cmm_world.specs.WorldState.{WorldFit, opening_world}
 use Rattle.cmm_world.specs.WorldView.{WorldView, plans_of}
+use Rattle.cmm_world.specs.Failures.{WorldCounted}
 use Rattle.cmm_world.specs.Run.{answers_of, world_after, run_of}
 use Rattle.cmm_world.specs.Headline.{NoStepDiscardsWrongly}
 use Rattle.cmm_world.proofs.LegalRuns.{legal_run, plans_opening}
@@ -34,5 +35,5 @@ returns g c =
       report =
           subst (λ w. Answers g.K.Sink.faults g.K.Sink.written c.args.out.now c.report.new.out (report_of false (run_of plan).0 (reports_of w)) Done c.report.result) state
           (subst (λ list. Answers g.K.Sink.faults g.K.Sink.written c.args.out.now c.report.new.out (report_of false list (reports_of c.replay.new.self.state)) Done c.report.result) answers c.report.ensures);
-      run = legal_run plan plans (subst WorldFit state c.replay.ensures.fit) discards;
+      run = legal_run plan plans (subst WorldFit state c.replay.ensures.fit) (subst WorldCounted state c.replay.ensures.failures) discards;
     })

@@ -1,6 +1,6 @@
-use Rattle.std.proofs.Common.{◌<◌, arith, sym, ap, ◌∙◌}
+use Rattle.std.proofs.Common.{arith, ap, ◌∙◌}
 use Rattle.cmm_types.specs.declared.plan.TheConstants.{MAX_MAPPING_SLOTS}
-use Rattle.guest_maps.specs.MapsView.{MapsView, opening_maps}
+use Rattle.guest_maps.specs.MapsView.{MapsView}
 use Rattle.guest_maps.specs.MapsLaws.{pages-opening}
 use Rattle.guest_io.proofs.tests.read.Goals as goal
 

@@ -69,6 +69,7 @@ after c =
     let fit = c.alone.ensures.fit in
     after_alone host_step disk_step (λ v. v.host.now) (λ d. d) (λ s call t q. q.0) (λ d call e q. q.0) (λ s call t q. q.1) (λ d call e q. q.1) (λ s call t q. keeps_others (host_of s) (page_of call) (host_of t) q.2)
     (inside c) c.args.guest c.args.cpu c.view-pages.result c.index_mut-2.result.now c.alone.new.self c.alone.result c.alone.new.st c.alone.new.disk c.self.invariant.0 (named_there c).0 c.view-pages.ensures.served disk (named_there c).1 fit
+    (c.alone.ensures.plan ∙ ap (λ (g : GuestState). g.plan) guest)
     (subst (λ g. Does host_step disk_step (alone g c.args.cpu) c.view-pages.result c.index_mut-2.result.now (c.alone.new.self, c.alone.result) c.alone.new.st c.alone.new.disk) guest c.alone.ensures.row)
 
 pub invariant_of-self : goal.invariant_of-self
@@ -88,3 +89,6 @@ returns-clause-plans c =
 
 pub returns-clause-fit : goal.returns-clause-fit
 returns-clause-fit c = (after c).world.fit
+
+pub returns-clause-failures : goal.returns-clause-failures
+returns-clause-failures c = (after c).world.failures

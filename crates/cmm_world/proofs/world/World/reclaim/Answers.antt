@@ -37,3 +37,6 @@ returns-clause-discards c =
 
 pub returns-clause-fit : goal.returns-clause-fit
 returns-clause-fit c = (invariant_of-self c).0.fit
+
+pub returns-clause-failures : goal.returns-clause-failures
+returns-clause-failures c = (invariant_of-self c).0.failures

@@ -87,3 +87,6 @@ returns-clause-plans c =
 
 pub returns-clause-fit : goal.returns-clause-fit
 returns-clause-fit c = (after c).world.fit
+
+pub returns-clause-failures : goal.returns-clause-failures
+returns-clause-failures c = (after c).world.failures

@@ -50,3 +50,39 @@ fill_turn-requires-clause-shown g c =
 pub fill_turn-requires-clause-block : goal.fill_turn-requires-clause-block
 fill_turn-requires-clause-block g c =
     backing-below c.args.self.now (g.St.Storage.view c.args.st.now) (g.D.Disk.view c.args.disk.now) c.in-Fill.page c.requires.fit
+
+pub look_turn-requires-clause-room : goal.look_turn-requires-clause-room
+look_turn-requires-clause-room g c =
+    journal-room c.args.self.now (g.St.Storage.view c.args.st.now) (g.D.Disk.view c.args.disk.now) c.args.cpu c.in-Some.op c.requires.fit c.requires.cpu (sym c.command.ensures ∙ c.in-Some.is)
+
+pub look_turn-requires-clause-place : goal.look_turn-requires-clause-place
+look_turn-requires-clause-place g c =
+    omega (arith, place-below c.args.self.now (g.St.Storage.view c.args.st.now) (g.D.Disk.view c.args.disk.now) c.args.cpu c.in-Some.op c.requires.fit (sym c.command.ensures ∙ c.in-Some.is))
+
+pub look_turn-requires-clause-fit : goal.look_turn-requires-clause-fit
+look_turn-requires-clause-fit g c =
+    ((g.D.Disk.view c.args.disk.now), c.requires.fit)
+
+pub look_turn-requires-clause-command : goal.look_turn-requires-clause-command
+look_turn-requires-clause-command g c =
+    sym c.command.ensures ∙ c.in-Some.is
+
+pub look_turn-requires-clause-phase : goal.look_turn-requires-clause-phase
+look_turn-requires-clause-phase g c =
+    ap (λ (p : Processor). p.phase) (sym c.processor.ensures) ∙ c.in-Sync.is
+
+pub write_back_turn-requires-clause-room : goal.write_back_turn-requires-clause-room
+write_back_turn-requires-clause-room g c =
+    journal-room c.args.self.now (g.St.Storage.view c.args.st.now) (g.D.Disk.view c.args.disk.now) c.args.cpu c.in-Some.op c.requires.fit c.requires.cpu (sym c.command.ensures ∙ c.in-Some.is)
+
+pub write_back_turn-requires-clause-place : goal.write_back_turn-requires-clause-place
+write_back_turn-requires-clause-place g c =
+    omega (arith, place-below c.args.self.now (g.St.Storage.view c.args.st.now) (g.D.Disk.view c.args.disk.now) c.args.cpu c.in-Some.op c.requires.fit (sym c.command.ensures ∙ c.in-Some.is))
+
+pub write_back_turn-requires-clause-command : goal.write_back_turn-requires-clause-command
+write_back_turn-requires-clause-command g c =
+    sym c.command.ensures ∙ c.in-Some.is
+
+pub write_back_turn-requires-clause-phase : goal.write_back_turn-requires-clause-phase
+write_back_turn-requires-clause-phase g c =
+    ap (λ (p : Processor). p.phase) (sym c.processor.ensures) ∙ c.in-SyncWrite.is

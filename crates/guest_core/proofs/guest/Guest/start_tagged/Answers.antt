@@ -28,3 +28,7 @@ info-requires g c =
 pub use_turn-requires-clause-usable : goal.use_turn-requires-clause-usable
 use_turn-requires-clause-usable g c =
     found-usable c.args.self.now (g.St.Storage.view c.args.st.now) c.requires.fit.0 c.in-Some.page c.args.tag c.requires.fit.1 (is_wanted (flat_of c.args.self.now.plan c.args.self.now.journal) c.args.self.now (g.St.Storage.view c.args.st.now) c.requires.fit.0 c.args.cpu c.args.op.now c.args.tag c.requires.fit.1.sizes c.requires.fit.1.slots c.requires.starts c.requires.wants).is_tag (sym c.page_with.ensures ∙ c.in-Some.is)
+
+pub use_turn-requires-clause-found : goal.use_turn-requires-clause-found
+use_turn-requires-clause-found g c =
+    record { tag = c.args.tag; wants = c.requires.wants; found = sym c.page_with.ensures ∙ c.in-Some.is }

@@ -1,0 +1,80 @@
+// Pins of pages of mappings.
+ghost use Rattle.std.specs.Prelude.{◌≡◌, ◌<◌, ◌≤◌, ◌*◌, length, None, Some, false, Contains, IfSome};
+ghost use Rattle.cmm_types.specs.declared.plan.TheConstants.{MAX_MAPPING_SLOTS};
+ghost use Rattle.cmm_types.specs.declared.command.TheConstants.{MAX_MAPPING_PAGES};
+ghost use Rattle.cmm_storage.specs.Program.{DoesAlone};
+ghost use Rattle.guest_pages.specs.PagesView.{info_at};
+ghost use Rattle.guest_cache.specs.CacheView.{IsTag};
+ghost use Rattle.guest_maps.specs.MapsView.{IsPlace};
+ghost use Rattle.guest_rules.specs.Rows.{pins_after, pinned, pin_page};
+
+use cmm_storage::{Busy, Storage};
+use cmm_types::Why;
+use guest_hint::{make_stable, rehint};
+use guest_rules::{Missed, Parts};
+
+/// One pin more, or one less.
+fn pins_after(pins: bool, count: u32) -> u32
+    requires most { count ≤ MAX_MAPPING_SLOTS * MAX_MAPPING_PAGES }
+    requires some { pins ≡ false → 1 ≤ count }
+    ensures { result ≡ pins_after pins count }
+{
+    if pins { count + 1 } else { count - 1 }
+}
+
+/// The place of the page is pinned, or isn't any more.
+#[tactic(auto, unfolding(guest_rules::specs::Rows::pinned))]
+fn set_pin(parts: &mut Parts, page: u32, slot: u32, index: u32, pins: bool)
+    requires page { page < length parts.old.pages.infos }
+    requires most { (info_at parts.old.pages page).pins ≤ MAX_MAPPING_SLOTS * MAX_MAPPING_PAGES }
+    requires some { pins ≡ false → 1 ≤ (info_at parts.old.pages page).pins }
+    requires place { IsPlace parts.old.maps slot index }
+    ensures value { parts.new ≡ pinned parts.old page slot index pins }
+    ensures count { length parts.new.pages.infos ≡ length parts.old.pages.infos }
+{
+    let count = parts.pages.info(page).pins;
+    parts.pages.set_pins(page, pins_after(pins, count));
+    parts.maps.set_pinned(slot, index, pins);
+}
+
+/// Pins page `index` of the mapping in a slot, or unpins it where `pins` is false. Its tag is on the page, which
+/// isn't locked. Nothing of the page is touched or read, so this never fails.
+#[tactic(auto, using(cmm_storage::specs::Runs::runs), unfolding(guest_rules::specs::Rows::pin_page))]
+pub fn pin_page<St: Storage>(
+    parts: &mut Parts,
+    st: &mut St,
+    page: u32,
+    slot: u32,
+    index: u32,
+    pins: bool,
+) -> Result<(), Missed>
+    requires page { page < length parts.old.pages.infos }
+    requires pages { page < (St.view st.old).pages }
+    requires not_free { Contains parts.old.pages.free page → ⊥ }
+    requires tag { IfSome (info_at parts.old.pages page).tag (λ tag. IsTag parts.old.cache tag) }
+    requires shown { page < parts.old.maps.pages }
+    requires most { (info_at parts.old.pages page).pins ≤ MAX_MAPPING_SLOTS * MAX_MAPPING_PAGES }
+    requires some { pins ≡ false → 1 ≤ (info_at parts.old.pages page).pins }
+    requires place { IsPlace parts.old.maps slot index }
+    requires none_held { (St.view st.old).held ≡ None }
+    ensures row { DoesAlone St.step (pin_page parts.old page slot index pins) st.old (parts.new, result) st.new }
+    ensures none_held { (St.view st.new).held ≡ None }
+{
+    match st.take(page) {
+        Err(Busy { word }) => Err(Missed::Again {
+            why: Why::Busy { page, word },
+        }),
+        Ok(()) => match make_stable(parts, st, page) {
+            Err(_) => {
+                st.put(page);
+                Err(Missed::Gone)
+            }
+            Ok(()) => {
+                set_pin(parts, page, slot, index, pins);
+                rehint(parts, st, page);
+                st.put(page);
+                Ok(())
+            }
+        },
+    }
+}

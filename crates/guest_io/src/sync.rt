@@ -1,0 +1,181 @@
+// A page of a file whose sync looks whether it is dirty, and writes it back.
+ghost use Rattle.std.specs.Prelude.{◌≡◌, ◌<◌, length, None, Some, Ok, Err, false, Contains, IfSome};
+ghost use Rattle.cmm_types.specs.declared.page.TheConstants.{PAGE};
+ghost use Rattle.essa_state.specs.StateWord.{is_unused};
+ghost use Rattle.cmm_storage.specs.Program.{Does, DoesAlone};
+ghost use Rattle.guest_pages.specs.PagesView.{info_at};
+ghost use Rattle.guest_cache.specs.CacheView.{IsTag};
+ghost use Rattle.guest_rules.specs.Rows.{backing_at};
+ghost use Rattle.guest_rules.specs.Syncs.{sync_known, sync_page, stay_dirty, back_written, back_fetched, back_touched, write_back};
+
+use cmm_io::Disk;
+use cmm_storage::{Busy, Storage, Trap};
+use cmm_types::{Cause, PAGE, Why};
+use guest_hint::{backing, make_stable, rehint};
+use guest_rules::{Filled, Parts, Synced};
+
+/// The held page, whose change bit has moved into what is known of it, is locked by the processor where it is dirty,
+/// and given back.
+#[tactic(auto, using(cmm_storage::specs::Runs::runs), unfolding(guest_rules::specs::Syncs::locked))]
+fn lock_dirty<St: Storage>(parts: &mut Parts, st: &mut St, cpu: u32, page: u32) -> Synced
+    requires page { page < length parts.old.pages.infos }
+    requires held { (St.view st.old).held ≡ Some page }
+    ensures row { DoesAlone St.step (sync_known page cpu parts.old (info_at parts.old.pages page).dirty) st.old (parts.new, result) st.new }
+    ensures none_held { (St.view st.new).held ≡ None }
+{
+    if parts.pages.info(page).dirty {
+        parts.pages.set_owner(page, Some(cpu));
+        st.put(page);
+        Synced::Locked
+    } else {
+        rehint(parts, st, page);
+        st.put(page);
+        Synced::Clean
+    }
+}
+
+/// Looks at a page with a tag for a sync of its file by a processor: a dirty page is locked, to be written back.
+#[tactic(auto, using(cmm_storage::specs::Runs::runs), unfolding(guest_rules::specs::Syncs::sync_page))]
+pub fn sync_page<St: Storage>(parts: &mut Parts, st: &mut St, cpu: u32, page: u32) -> Synced
+    requires page { page < length parts.old.pages.infos }
+    requires pages { page < (St.view st.old).pages }
+    requires not_free { Contains parts.old.pages.free page → ⊥ }
+    requires tag { IfSome (info_at parts.old.pages page).tag (λ tag. IsTag parts.old.cache tag) }
+    requires shown { page < parts.old.maps.pages }
+    requires none_held { (St.view st.old).held ≡ None }
+    ensures row { DoesAlone St.step (sync_page parts.old page cpu) st.old (parts.new, result) st.new }
+    ensures none_held { (St.view st.new).held ≡ None }
+{
+    if let Some(owner) = parts.pages.info(page).owner {
+        return Synced::Waits { owner };
+    }
+    match st.take(page) {
+        Err(Busy { word }) => Synced::Again {
+            why: Why::Busy { page, word },
+        },
+        Ok(()) => match make_stable(parts, st, page) {
+            Err(_) => {
+                st.put(page);
+                Synced::Gone
+            }
+            Ok(()) => {
+                if st.take_change(page) {
+                    parts.pages.set_dirty(page, true);
+                    lock_dirty(parts, st, cpu, page)
+                } else {
+                    lock_dirty(parts, st, cpu, page)
+                }
+            }
+        },
+    }
+}
+
+/// The held page, which is locked, couldn't be written back: it stays dirty, and is unlocked and given back.
+#[tactic(auto, using(cmm_storage::specs::Runs::runs), unfolding(guest_rules::specs::Syncs::unlocked))]
+fn stay_dirty<St: Storage>(parts: &mut Parts, st: &mut St, page: u32, cause: Cause) -> Filled
+    requires page { page < length parts.old.pages.infos }
+    requires held { (St.view st.old).held ≡ Some page }
+    ensures row { DoesAlone St.step (stay_dirty parts.old page cause) st.old (parts.new, result) st.new }
+    ensures none_held { (St.view st.new).held ≡ None }
+{
+    parts.pages.set_owner(page, None);
+    rehint(parts, st, page);
+    st.put(page);
+    Filled::Fail(cause)
+}
+
+/// The held page, which is locked, has its bytes in its block: it is clean, and is unlocked and given back. What was
+/// stored to it since it was locked makes it dirty again.
+#[tactic(auto, using(cmm_storage::specs::Runs::runs), unfolding(guest_rules::specs::Syncs::cleaned))]
+fn come_clean<St: Storage>(parts: &mut Parts, st: &mut St, page: u32) -> Filled
+    requires page { page < length parts.old.pages.infos }
+    requires held { (St.view st.old).held ≡ Some page }
+    ensures row { DoesAlone St.step (back_written parts.old page (Ok tt)) st.old (parts.new, result) st.new }
+    ensures none_held { (St.view st.new).held ≡ None }
+{
+    parts.pages.set_dirty(page, false);
+    parts.pages.set_owner(page, None);
+    rehint(parts, st, page);
+    st.put(page);
+    Filled::Done
+}
+
+/// The touch of the held page, which is locked, failed.
+#[tactic(auto, using(cmm_storage::specs::Runs::runs))]
+fn miss<St: Storage>(parts: &mut Parts, st: &mut St, page: u32, trap: Trap) -> Filled
+    requires page { page < length parts.old.pages.infos }
+    requires held { (St.view st.old).held ≡ Some page }
+    ensures row { DoesAlone St.step (back_touched parts.old page (Err trap)) st.old (parts.new, result) st.new }
+    ensures none_held { (St.view st.new).held ≡ None }
+{
+    match trap {
+        Trap::Discarded => stay_dirty(parts, st, page, Cause::Paging),
+        Trap::Paging => stay_dirty(parts, st, page, Cause::Paging),
+        Trap::NoFrame { looks } => {
+            st.put(page);
+            Filled::Again {
+                why: Why::NoFrame { looks },
+            }
+        }
+    }
+}
+
+/// Writes the bytes of the held page to its block. A page without one is never locked to be written back.
+#[tactic(auto, using(cmm_storage::specs::Runs::runs, guest_hint::specs::RunLaws::does_alone))]
+fn write_to<St: Storage, D: Disk>(
+    parts: &mut Parts,
+    st: &mut St,
+    disk: &mut D,
+    page: u32,
+    block: Option<u32>,
+    bytes: &[u8],
+) -> Filled
+    requires page { page < length parts.old.pages.infos }
+    requires block { IfSome block (λ number. number < (D.view disk.old).count) }
+    requires held { (St.view st.old).held ≡ Some page }
+    requires whole { length bytes.now ≡ PAGE }
+    ensures row { Does St.step D.step (back_fetched parts.old page block bytes.now) st.old disk.old (parts.new, result) st.new disk.new }
+    ensures none_held { (St.view st.new).held ≡ None }
+{
+    match block {
+        None => stay_dirty(parts, st, page, Cause::Disk),
+        Some(number) => match disk.write(number, bytes) {
+            Err(_) => stay_dirty(parts, st, page, Cause::Disk),
+            Ok(()) => come_clean(parts, st, page),
+        },
+    }
+}
+
+/// Writes a locked page to the block of its tag. Where it fails, the page stays dirty. Either way it isn't locked
+/// any more, unless the turn has to be taken again.
+#[tactic(auto, using(cmm_storage::specs::Runs::runs, guest_hint::specs::RunLaws::does_alone), unfolding(guest_rules::specs::Syncs::write_back))]
+pub fn write_back<St: Storage, D: Disk>(
+    parts: &mut Parts,
+    st: &mut St,
+    disk: &mut D,
+    page: u32,
+) -> Filled
+    requires page { page < length parts.old.pages.infos }
+    requires pages { page < (St.view st.old).pages }
+    requires tag { IfSome (info_at parts.old.pages page).tag (λ tag. IsTag parts.old.cache tag) }
+    requires block { IfSome (backing_at parts.old page) (λ block. block < (D.view disk.old).count) }
+    requires used { is_unused ((St.view st.old).values page).usage ≡ false }
+    requires none_held { (St.view st.old).held ≡ None }
+    ensures row { Does St.step D.step (write_back parts.old page) st.old disk.old (parts.new, result) st.new disk.new }
+    ensures none_held { (St.view st.new).held ≡ None }
+{
+    match st.take(page) {
+        Err(Busy { word }) => Filled::Again {
+            why: Why::Busy { page, word },
+        },
+        Ok(()) => match st.touch(page) {
+            Err(trap) => miss(parts, st, page, trap),
+            Ok(()) => {
+                let mut bytes = [0u8; PAGE];
+                st.fetch(page, 0, &mut bytes);
+                let block = backing(parts, page);
+                write_to(parts, st, disk, page, block, &bytes)
+            }
+        },
+    }
+}

@@ -1,0 +1,60 @@
+// Bytes that are written to a page.
+ghost use Rattle.std.specs.Prelude.{◌≡◌, ◌<◌, ◌≤◌, ◌+◌, length, None, Contains, IfSome};
+ghost use Rattle.cmm_types.specs.declared.page.TheConstants.{PAGE};
+ghost use Rattle.cmm_storage.specs.Program.{DoesAlone};
+ghost use Rattle.guest_pages.specs.PagesView.{info_at};
+ghost use Rattle.guest_cache.specs.CacheView.{IsTag};
+ghost use Rattle.guest_rules.specs.Rows.{write_page};
+
+use crate::read::missed_by;
+use cmm_storage::{Busy, Storage};
+use cmm_types::{Bytes64, Why};
+use guest_hint::{make_stable, rehint};
+use guest_rules::{Missed, Parts};
+
+/// Writes up to 64 bytes to a page that has a tag and isn't locked, from `off` on. All of them lie in the page, which
+/// is dirty then, and stays stable.
+#[tactic(auto, using(cmm_storage::specs::Runs::runs), unfolding(guest_rules::specs::Rows::write_page))]
+pub fn write_page<St: Storage>(
+    parts: &mut Parts,
+    st: &mut St,
+    page: u32,
+    off: u32,
+    from: &Bytes64,
+) -> Result<(), Missed>
+    requires page { page < length parts.old.pages.infos }
+    requires pages { page < (St.view st.old).pages }
+    requires not_free { Contains parts.old.pages.free page → ⊥ }
+    requires tag { IfSome (info_at parts.old.pages page).tag (λ tag. IsTag parts.old.cache tag) }
+    requires shown { page < parts.old.maps.pages }
+    requires none_held { (St.view st.old).held ≡ None }
+    requires within { off + length from.now ≤ PAGE }
+    ensures row { DoesAlone St.step (write_page parts.old page off from.now) st.old (parts.new, result) st.new }
+    ensures none_held { (St.view st.new).held ≡ None }
+{
+    match st.take(page) {
+        Err(Busy { word }) => Err(Missed::Again {
+            why: Why::Busy { page, word },
+        }),
+        Ok(()) => match make_stable(parts, st, page) {
+            Err(_) => {
+                st.put(page);
+                Err(Missed::Gone)
+            }
+            Ok(()) => match st.touch(page) {
+                Err(trap) => {
+                    rehint(parts, st, page);
+                    st.put(page);
+                    Err(missed_by(trap))
+                }
+                Ok(()) => {
+                    st.store(page, off as usize, from.as_slice());
+                    parts.pages.set_dirty(page, true);
+                    rehint(parts, st, page);
+                    st.put(page);
+                    Ok(())
+                }
+            },
+        },
+    }
+}
