@@ -1,58 +1,71 @@
 -- What the loops of `read_all` and `write_all` keep.
-use Rattle.std.proofs.Common.{◌≡◌, ◌∙◌, ℕ, ◌+◌, ◌<◌, List, [], ◌++◌, length, take, drop, Option, Some, None, refl, sym, ap, append_assoc, subst, arith}
-use Rattle.std.proofs.lemmas.List.{take-append-drop, drop-take, take-take, append-nil, length-append}
-use Rattle.cmm_io.specs.SourceBytes.{Gives, IsAtEnd, IsWhole, IsLonger}
-use Rattle.cmm_io.specs.SinkBytes.{behind}
-use Rattle.cmm_io.specs.SinkBytesLaws.{behind-behind}
+use Rattle.std.proofs.Common.{◌≡◌, ◌∙◌, ℕ, ◌+◌, ◌^◌, ◌<◌, ◌≤◌, List, [], ◌++◌, length, take, drop, Option, Some, None, refl, sym, ap, append_assoc, subst, arith}
+use Rattle.std.specs.Io.KnownBytes.{Consumes, IsAtEnd}
+use Rattle.std.proofs.Math.Seq.{take-append_seam}
+use Rattle.std.proofs.lemmas.List.{length-take-le, length-drop, drop-drop, take-append-drop, drop-take, take-take, append-nil, length-append}
+use Rattle.cmm_io.specs.SourceBytes.{given_after, HasTaken, IsWhole, IsLonger}
 
--- these bytes were taken from the front of the rest
-abbrev pub Took : Option (List ℕ) → List ℕ → Option (List ℕ) → Type 0
-Took None bytes after = after ≡ None
-Took (Some rest) bytes after = (left : List ℕ) × (rest ≡ bytes ++ left) × (after ≡ Some left)
+Consumes-nothing : (known : Option (List ℕ)) → Consumes known known []
+Consumes-nothing None = tt
+Consumes-nothing (Some rest) = refl
 
-pub Took-nothing : (rest : Option (List ℕ)) (bytes : List ℕ) → bytes ≡ [] → Took rest bytes rest
-Took-nothing None bytes e = refl
-Took-nothing (Some rest) bytes e = (rest, ap (λ b. b ++ rest) (sym e), refl)
+pub Consumes-then : (old middle new : Option (List ℕ)) (a b : List ℕ) → Consumes old middle a → Consumes middle new b → Consumes old new (a ++ b)
+Consumes-then None middle new a b first second = tt
+Consumes-then (Some x) None new a b first second = absurd first
+Consumes-then (Some x) (Some y) None a b first second = absurd second
+Consumes-then (Some x) (Some y) (Some z) a b first second = first ∙ ap (λ l. a ++ l) second ∙ sym (append_assoc a b z)
 
-gives_left : (left piece : List ℕ) (n : ℕ) → take n piece ≡ take n left → left ≡ take n piece ++ drop n left
-gives_left left piece n e = sym (take-append-drop n left) ∙ ap (λ l. l ++ drop n left) (sym e)
+given_nothing : (given : ℕ) → given ≡ given_after given 0
+given_nothing given = omega arith
 
-took_some : (rest bytes left piece : List ℕ) (n : ℕ) (after : Option (List ℕ)) → rest ≡ bytes ++ left → Gives (Some left) n piece after → Took (Some rest) (bytes ++ take n piece) after
-took_some rest bytes left piece n after e g =
-    (drop n left, e ∙ ap (λ l. bytes ++ l) (gives_left left piece n g.1) ∙ sym (append_assoc bytes (take n piece) (drop n left)), g.2)
+given_then : (given n m : ℕ) → given_after (given_after given n) m ≡ given_after given (n + m)
+given_then given n m = omega arith
 
-gives_at : (middle : Option (List ℕ)) (left piece : List ℕ) (n : ℕ) (after : Option (List ℕ)) → middle ≡ Some left → Gives middle n piece after → Gives (Some left) n piece after
-gives_at middle left piece n after e g = subst (λ m. Gives m n piece after) e g
+module _ {S : Type 0} (rest : S → Option (List ℕ)) (given : S → ℕ) where
+  pub HasTaken-nothing : (src : S) (bytes : List ℕ) → bytes ≡ [] → HasTaken rest given src src bytes
+  HasTaken-nothing src bytes empty =
+      subst (HasTaken rest given src src) (sym empty) (record { lost = Consumes-nothing (rest src); counted = given_nothing (given src) })
 
-pub Took-more : (rest : Option (List ℕ)) (bytes piece : List ℕ) (middle after : Option (List ℕ)) (n : ℕ) → Took rest bytes middle → Gives middle n piece after → Took rest (bytes ++ take n piece) after
-Took-more None bytes piece middle after n t g = subst (λ m. Gives m n piece after) t g
-Took-more (Some rest) bytes piece middle after n t g = took_some rest bytes t.0 piece n after t.1 (gives_at middle t.0 piece n after t.2 g)
+  pub HasTaken-then : (old middle new : S) (a b : List ℕ) → HasTaken rest given old middle a → HasTaken rest given middle new b → HasTaken rest given old new (a ++ b)
+  HasTaken-then old middle new a b first second = record {
+    lost = Consumes-then (rest old) (rest middle) (rest new) a b first.lost second.lost;
+    counted =
+        second.counted ∙ ap (λ n. given_after n (length b)) first.counted ∙ given_then (given old) (length a) (length b)
+        ∙ ap (given_after (given old)) (sym (length-append a b));
+  }
 
-pub whole_at_end : (rest : Option (List ℕ)) (bytes : List ℕ) (middle : Option (List ℕ)) → Took rest bytes middle → IsAtEnd middle → IsWhole rest bytes
-whole_at_end None bytes middle t e = tt
-whole_at_end (Some rest) bytes middle t e =
-    let nothing : t.0 ≡ [] = subst IsAtEnd t.2 e in
-    sym (t.1 ∙ ap (λ l. bytes ++ l) nothing ∙ append-nil bytes)
+  -- a call that took nothing more
+  pub HasTaken-same : (old middle new : S) (bytes more : List ℕ) → HasTaken rest given old middle bytes → HasTaken rest given middle new more → more ≡ [] → HasTaken rest given old new bytes
+  HasTaken-same old middle new bytes more first second none =
+      subst (HasTaken rest given old new) (ap (λ l. bytes ++ l) none ∙ append-nil bytes) (HasTaken-then old middle new bytes more first second)
 
-drop_nothing : (left piece : List ℕ) (n : ℕ) → n ≡ 0 → drop n left ≡ left
-drop_nothing left piece n z = ap (λ k. drop k left) z
+pub whole_at_end : (old new : Option (List ℕ)) (bytes : List ℕ) → Consumes old new bytes → IsAtEnd new → IsWhole old bytes
+whole_at_end None new bytes lost end = tt
+whole_at_end (Some rest) None bytes lost end = absurd lost
+whole_at_end (Some rest) (Some left) bytes lost end = sym (lost ∙ ap (λ l. bytes ++ l) end ∙ append-nil bytes)
 
--- a read of nothing at the end leaves the end
-pub still_at_end : (middle : Option (List ℕ)) (piece : List ℕ) (n : ℕ) (after : Option (List ℕ)) → Gives middle n piece after → n ≡ 0 → IsAtEnd middle → IsAtEnd after
-still_at_end None piece n after g z e = subst IsAtEnd (sym g) tt
-still_at_end (Some left) piece n after g z e = subst IsAtEnd (sym g.2) (drop_nothing left piece n z ∙ e)
+pub longer : (old new : Option (List ℕ)) (bytes : List ℕ) (limit : ℕ) → Consumes old new bytes → limit < length bytes → IsLonger old limit
+longer None new bytes limit lost more = tt
+longer (Some rest) None bytes limit lost more = absurd lost
+longer (Some rest) (Some left) bytes limit lost more = omega (arith, ap length lost, length-append bytes left)
 
-pub longer : (rest : Option (List ℕ)) (bytes : List ℕ) (middle : Option (List ℕ)) (limit : ℕ) → Took rest bytes middle → limit < length bytes → IsLonger rest limit
-longer None bytes middle limit t more = tt
-longer (Some rest) bytes middle limit t more = omega (arith, ap length t.1, length-append bytes t.0)
+pub take_then : (piece : List ℕ) (done n : ℕ) → take done piece ++ take n (drop done piece) ≡ take (done + n) piece
+take_then piece done n =
+    ap (λ l. take done piece ++ l) (sym (drop-take done n piece))
+    ∙ ap (λ l. l ++ drop done (take (done + n) piece)) (sym (take-take done (done + n) piece (omega arith)))
+    ∙ take-append-drop done (take (done + n) piece)
 
--- one more piece written
-pub behind-more : (before middle after : Option (List ℕ)) (piece : List ℕ) (done n : ℕ) → middle ≡ behind before (take done piece) → after ≡ behind middle (take n (drop done piece)) → after ≡ behind before (take (done + n) piece)
-behind-more before middle after piece done n m a =
-    a ∙ ap (λ o. behind o (take n (drop done piece))) m ∙ behind-behind before (take done piece) (take n (drop done piece)) ∙ ap (behind before) (joined piece done n)
-  where
-    joined : (piece : List ℕ) (done n : ℕ) → take done piece ++ take n (drop done piece) ≡ take (done + n) piece
-    joined piece done n =
-        ap (λ l. take done piece ++ l) (sym (drop-take done n piece))
-        ∙ ap (λ l. l ++ drop done (take (done + n) piece)) (sym (take-take done (done + n) piece (omega arith)))
-        ∙ take-append-drop done (take (done + n) piece)
+-- the bytes that were copied into a buffer's front, of which the rest loses as many
+pub copied_front : (copy back : List ℕ) (n : ℕ) → length copy ≡ n → take n (copy ++ back) ≡ copy
+copied_front copy back n size = ap (λ k. take k (copy ++ back)) (sym size) ∙ take-append_seam copy back
+
+pub taken_from : (items copy back : List ℕ) (taken n : ℕ) → n ≤ length (drop taken items) → copy ≡ take n (drop taken items) → drop taken items ≡ take n (copy ++ back) ++ drop (taken + n) items
+taken_from items copy back taken n fits e =
+    let size : length copy ≡ n = ap length e ∙ length-take-le n (drop taken items) fits in
+    sym (take-append-drop n (drop taken items)) ∙ ap (λ l. l ++ drop n (drop taken items)) (sym e ∙ sym (copied_front copy back n size)) ∙ ap (λ l. take n (copy ++ back) ++ l) (drop-drop n taken items)
+
+pub given_copied : (items copy back : List ℕ) (taken n given : ℕ) → n ≤ length (drop taken items) → copy ≡ take n (drop taken items) → taken ≡ given → length items < 2 ^ 64 → taken + n ≡ given_after given (length (take n (copy ++ back)))
+given_copied items copy back taken n given fits e same few =
+    let size : length copy ≡ n = ap length e ∙ length-take-le n (drop taken items) fits in
+    let front : length (take n (copy ++ back)) ≡ n = ap length (copied_front copy back n size) ∙ size in
+    omega (arith, length-drop taken items)

@@ -10,3 +10,4 @@ pub mod DiskOf
 pub mod Padded
 pub mod DiskState
 pub mod Counted
+pub mod StdEnds

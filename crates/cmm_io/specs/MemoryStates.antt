@@ -1,5 +1,5 @@
 -- The source and the sink in memory.
-use Rattle.std.specs.Prelude.{ℕ, ◌+◌, List, Bool, ◌||◌, nat_lt, length, min}
+use Rattle.std.specs.Prelude.{ℕ, ◌+◌, List, Bool, ◌||◌, nat_lt, length, min, Option, Some}
 use Rattle.cmm_io.specs.FailurePlan.{FailurePlan, fails_next}
 
 -- the bytes that are left, how many were given, how many a read gives at most, and which reads fail
@@ -8,6 +8,13 @@ pub record SourceState : Type 0 where
   pub given : ℕ
   pub piece : ℕ
   pub failures : FailurePlan
+
+-- what it tells of its rest: all
+abbrev pub told_rest : SourceState → Option (List ℕ)
+told_rest source = Some source.rest
+
+abbrev pub bytes_given : SourceState → ℕ
+bytes_given source = source.given
 
 -- how many bytes a read gives into a buffer of this size
 abbrev pub read_length : SourceState → ℕ → ℕ

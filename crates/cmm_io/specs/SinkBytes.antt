@@ -1,11 +1,16 @@
--- What a write does to the bytes that a sink tells as written.
-use Rattle.std.specs.Prelude.{◌≡◌, ℕ, ◌≤◌, List, ◌++◌, length, take, Option, Some, None}
+-- What writing a text does to a sink: to the bytes that it tells as written, and to its count of faults.
+use Rattle.std.specs.Prelude.{◌≡◌, ℕ, ◌≤◌, List, length, take, Option, Result, OnOk, OnErr}
+use Rattle.std.specs.Io.KnownBytes.{Appends}
+use Rattle.cmm_io.specs.Faults.{raised}
 
--- what is written, with these bytes behind it; what isn't told stays untold
-abbrev pub behind : Option (List ℕ) → List ℕ → Option (List ℕ)
-behind None bytes = None
-behind (Some before) bytes = Some (before ++ bytes)
+-- some front of these bytes was written behind what was written before
+abbrev pub AppendsFront : Option (List ℕ) → Option (List ℕ) → List ℕ → Type 0
+AppendsFront old new bytes = (n : ℕ) × (n ≤ length bytes) × Appends old new (take n bytes)
 
--- some prefix of these bytes was written behind what was written before
-abbrev pub WrotePrefix : Option (List ℕ) → List ℕ → Option (List ℕ) → Type 0
-WrotePrefix before bytes after = (n : ℕ) × (n ≤ length bytes) × (after ≡ behind before (take n bytes))
+-- the whole text was written behind what was written before, or a write failed behind a front of it
+pub record Writes {K : Type 0} (faults : K → ℕ) (written : K → Option (List ℕ)) (old new : K) (text : List ℕ) {T E : Type 0} (result : Result T E) : Type 0 where
+  pub whole : OnOk result (Appends (written old) (written new) text)
+  pub no_fault : OnOk result (faults new ≡ faults old)
+  pub front : OnErr result (AppendsFront (written old) (written new) text)
+  pub fault : OnErr result (faults new ≡ raised (faults old))
+  pub never_falls : faults old ≤ faults new

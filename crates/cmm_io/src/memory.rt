@@ -1,7 +1,7 @@
 ghost use Rattle.std.specs.Prelude.{◌≡◌, ◌≤◌, ◌<◌, ◌++◌, ◌↔◌, [], length, take, drop, IfOk, IfErr, IsErr, IsTrue};
 ghost use Rattle.cmm_io.specs.FailurePlan.{plan_of, fails_next, after_next, after_call};
-ghost use Rattle.cmm_io.specs.SourceBytes.{given_after};
-ghost use Rattle.cmm_io.specs.MemoryStates.{read_length, write_fails};
+ghost use Rattle.cmm_io.specs.SourceBytes.{HasTaken};
+ghost use Rattle.cmm_io.specs.MemoryStates.{told_rest, bytes_given, read_length, write_fails};
 
 use crate::failed::Failed;
 use crate::failures::PlannedFailures;
@@ -49,13 +49,13 @@ impl MemSource {
 }
 
 impl Source for MemSource {
-    ghost use Rattle.std.specs.Prelude.{Some};
+    ghost use Rattle.cmm_io.specs.MemoryStates.{told_rest, bytes_given};
 
     ghost faults = { λ s. s.failures.faults };
 
-    ghost rest = { λ s. Some s.rest };
+    ghost rest = { told_rest };
 
-    ghost given = { λ s. s.given };
+    ghost given = { bytes_given };
 
     fn faults(&self) -> u64 {
         self.failures.faults()
@@ -63,10 +63,10 @@ impl Source for MemSource {
 
     fn read(&mut self, buf: &mut [u8]) -> Result<usize, Failed>
         ensures piece { IfOk result (λ n. n ≡ read_length self.old (length buf.old)) }
-        ensures bytes { IfOk result (λ n. take n buf.new ≡ take n self.old.rest) }
-        ensures rest { IfOk result (λ n. self.new.rest ≡ drop n self.old.rest) }
-        ensures end { IfOk result (λ n. n ≡ 0 → 0 < length buf.old → self.old.rest ≡ []) }
-        ensures given { IfOk result (λ n. self.new.given ≡ given_after self.old.given n) }
+        ensures takes { IfOk result (λ n. HasTaken told_rest bytes_given self.old self.new (take n buf.new)) }
+        ensures end { IfOk result (λ n. n ≡ 0 → 0 < length buf.old → self.new.rest ≡ []) }
+        ensures same_rest { IfErr result (λ _. self.new.rest ≡ self.old.rest) }
+        ensures same_given { IfErr result (λ _. self.new.given ≡ self.old.given) }
         ensures same_piece { self.new.piece ≡ self.old.piece }
         ensures planned { IsErr result ↔ IsTrue (fails_next self.old.failures) }
         ensures counts { self.new.failures ≡ after_next self.old.failures }

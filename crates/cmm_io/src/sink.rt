@@ -1,6 +1,6 @@
 ghost use Rattle.std.specs.Prelude.{◌≡◌, ◌<◌, ◌≤◌, ℕ, List, Option, length, take, IfOk, IfErr};
-ghost use Rattle.cmm_io.specs.Faults.{HasRisen};
-ghost use Rattle.cmm_io.specs.SinkBytes.{behind};
+ghost use Rattle.std.specs.Io.KnownBytes.{Appends, Keeps};
+ghost use Rattle.cmm_io.specs.Faults.{raised};
 
 use crate::failed::Failed;
 
@@ -18,8 +18,9 @@ pub trait Sink {
     fn write(&mut self, piece: &[u8]) -> Result<usize, Failed>
         ensures fits { IfOk result (λ n. n ≤ length piece.now) }
         ensures goes_on { IfOk result (λ n. 0 < length piece.now → 1 ≤ n) }
-        ensures wrote { IfOk result (λ n. written self.new ≡ behind (written self.old) (take n piece.now)) }
-        ensures fails { IfErr result (λ _. HasRisen (faults self.old) (faults self.new)) }
-        ensures wrote_nothing { IfErr result (λ _. written self.new ≡ written self.old) }
+        ensures wrote { IfOk result (λ n. Appends (written self.old) (written self.new) (take n piece.now)) }
+        ensures wrote_nothing { IfErr result (λ _. Keeps (written self.old) (written self.new)) }
+        ensures no_fault { IfOk result (λ _. faults self.new ≡ faults self.old) }
+        ensures fault { IfErr result (λ _. faults self.new ≡ raised (faults self.old)) }
         ensures never_falls { faults self.old ≤ faults self.new };
 }

@@ -1,6 +1,7 @@
-ghost use Rattle.std.specs.Prelude.{◌≡◌, ◌<◌, ◌≤◌, ℕ, List, Option, length, is_some, IfOk, IfErr};
-ghost use Rattle.cmm_io.specs.Faults.{HasRisen};
-ghost use Rattle.cmm_io.specs.SourceBytes.{Gives, IsAtEnd, given_after};
+ghost use Rattle.std.specs.Prelude.{◌≡◌, ◌<◌, ◌≤◌, ℕ, List, [], Option, length, take, IfOk, IfErr};
+ghost use Rattle.std.specs.Io.KnownBytes.{IsAtEnd};
+ghost use Rattle.cmm_io.specs.Faults.{raised};
+ghost use Rattle.cmm_io.specs.SourceBytes.{HasTaken};
 
 use crate::failed::Failed;
 
@@ -18,13 +19,13 @@ pub trait Source {
         ensures { result ≡ faults self.now };
 
     /// Reads into the front of `buf`, and answers how many bytes. `Ok(0)` into a buffer that isn't empty is the
-    /// end of the input. After `Failed` nothing is known of what is left.
+    /// end of the input. `Failed` has taken nothing.
     fn read(&mut self, buf: &mut [u8]) -> Result<usize, Failed>
         ensures fits { IfOk result (λ n. n ≤ length buf.old) }
-        ensures gives { IfOk result (λ n. Gives (rest self.old) n buf.new (rest self.new)) }
-        ensures end { IfOk result (λ n. n ≡ 0 → 0 < length buf.old → IsAtEnd (rest self.old)) }
-        ensures counts { IfOk result (λ n. given self.new ≡ given_after (given self.old) n) }
-        ensures fails { IfErr result (λ _. HasRisen (faults self.old) (faults self.new)) }
-        ensures never_falls { faults self.old ≤ faults self.new }
-        ensures tells { is_some (rest self.new) ≡ is_some (rest self.old) };
+        ensures takes { IfOk result (λ n. HasTaken rest given self.old self.new (take n buf.new)) }
+        ensures end { IfOk result (λ n. n ≡ 0 → 0 < length buf.old → IsAtEnd (rest self.new)) }
+        ensures takes_nothing { IfErr result (λ _. HasTaken rest given self.old self.new []) }
+        ensures no_fault { IfOk result (λ _. faults self.new ≡ faults self.old) }
+        ensures fault { IfErr result (λ _. faults self.new ≡ raised (faults self.old)) }
+        ensures never_falls { faults self.old ≤ faults self.new };
 }

@@ -1,9 +1,12 @@
+ghost use Rattle.std.specs.Prelude.{◌≡◌};
+ghost use Rattle.cmm_io.specs.StdEnds.{reader_of, source_given, source_faults, writer_of, sink_faults};
+
 use crate::failed::Failed;
 use crate::sink::Sink;
 use crate::source::Source;
 use std::io::{Read, Write};
 
-/// Reads from std's reader. It tells nothing of content.
+/// Reads from std's reader, and tells what that tells: of standard input nothing.
 #[derive(Drop)]
 pub struct StdSource<R> {
     reader: R,
@@ -12,7 +15,12 @@ pub struct StdSource<R> {
 }
 
 impl<R: Read> StdSource<R> {
-    pub fn new(reader: R) -> StdSource<R> {
+    /// Nothing is read yet.
+    pub fn new(reader: R) -> StdSource<R>
+        ensures reader { reader_of result ≡ reader }
+        ensures given { source_given result ≡ 0 }
+        ensures faults { source_faults result ≡ 0 }
+    {
         StdSource {
             reader,
             given: 0,
@@ -22,13 +30,13 @@ impl<R: Read> StdSource<R> {
 }
 
 impl<R: Read> Source for StdSource<R> {
-    ghost use Rattle.std.specs.Prelude.{None};
+    ghost use Rattle.cmm_io.specs.StdEnds.{reader_of, source_given, source_faults};
 
-    ghost faults = { λ s. s.faults };
+    ghost faults = { source_faults };
 
-    ghost rest = { λ _. None };
+    ghost rest = { λ s. R.remaining (reader_of s) };
 
-    ghost given = { λ s. s.given };
+    ghost given = { source_given };
 
     fn faults(&self) -> u64 {
         self.faults
@@ -48,8 +56,8 @@ impl<R: Read> Source for StdSource<R> {
     }
 }
 
-/// Writes to std's writer. It tells nothing of content. A writer that takes nothing of a piece that isn't empty
-/// has failed.
+/// Writes to std's writer, and tells what that tells: of standard output nothing. A writer that takes nothing of a
+/// piece that isn't empty has failed.
 #[derive(Drop)]
 pub struct StdSink<W> {
     writer: W,
@@ -57,17 +65,21 @@ pub struct StdSink<W> {
 }
 
 impl<W: Write> StdSink<W> {
-    pub fn new(writer: W) -> StdSink<W> {
+    /// Nothing has failed yet.
+    pub fn new(writer: W) -> StdSink<W>
+        ensures writer { writer_of result ≡ writer }
+        ensures faults { sink_faults result ≡ 0 }
+    {
         StdSink { writer, faults: 0 }
     }
 }
 
 impl<W: Write> Sink for StdSink<W> {
-    ghost use Rattle.std.specs.Prelude.{None};
+    ghost use Rattle.cmm_io.specs.StdEnds.{writer_of, sink_faults};
 
-    ghost faults = { λ s. s.faults };
+    ghost faults = { sink_faults };
 
-    ghost written = { λ _. None };
+    ghost written = { λ s. W.contents (writer_of s) };
 
     fn faults(&self) -> u64 {
         self.faults

@@ -1,6 +1,4 @@
-ghost use Rattle.std.specs.Prelude.{◌≡◌, ◌≤◌, OnOk, OnErr};
-ghost use Rattle.cmm_io.specs.Faults.{HasRisen};
-ghost use Rattle.cmm_io.specs.SinkBytes.{behind, WrotePrefix};
+ghost use Rattle.cmm_io.specs.SinkBytes.{Writes};
 
 use crate::failed::Failed;
 use crate::sink::Sink;
@@ -11,10 +9,7 @@ pub struct WriteFault;
 
 /// Writes the whole piece.
 pub fn write_all<K: Sink>(out: &mut K, piece: &[u8]) -> Result<(), WriteFault>
-    ensures wrote { OnOk result (K.written out.new ≡ behind (K.written out.old) piece.now) }
-    ensures prefix { OnErr result (WrotePrefix (K.written out.old) piece.now (K.written out.new)) }
-    ensures fault { OnErr result (HasRisen (K.faults out.old) (K.faults out.new)) }
-    ensures never_falls { K.faults out.old ≤ K.faults out.new }
+    ensures { Writes K.faults K.written out.old out.new piece.now result }
 {
     let mut done = 0;
     while done < piece.len() {

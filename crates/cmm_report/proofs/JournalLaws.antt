@@ -15,18 +15,18 @@ use Rattle.cmm_report.proofs.Splits.{IsFree, IsFree-append, IsFree-decimal, IsFr
 use Rattle.cmm_report.proofs.ReplyLaws.{reply_same, IsFree-reply}
 
 -- a line's text, which has no line feed yet
-abbrev unended : Entry → List ℕ
+abbrev pub unended : Entry → List ℕ
 unended entry = decimal entry.cpu ++ codes " " ++ decimal entry.k ++ codes " " ++ reply_text entry.reply
 
-IsFree-unended : (entry : Entry) → EntryFits entry → IsFree 10 (unended entry)
+pub IsFree-unended : (entry : Entry) → EntryFits entry → IsFree 10 (unended entry)
 IsFree-unended entry fits =
     let space = IsFree-text 10 (codes " ") refl in
-    let cpu = IsFree-append 10 (decimal entry.cpu) (codes " ") (IsFree-decimal 10 (omega arith) entry.cpu fits.cpu) space in
-    let k = IsFree-append 10 (decimal entry.cpu ++ codes " ") (decimal entry.k) cpu (IsFree-decimal 10 (omega arith) entry.k fits.k) in
+    let cpu = IsFree-append 10 (decimal entry.cpu) (codes " ") (IsFree-decimal 10 (omega arith) entry.cpu) space in
+    let k = IsFree-append 10 (decimal entry.cpu ++ codes " ") (decimal entry.k) cpu (IsFree-decimal 10 (omega arith) entry.k) in
     let front = IsFree-append 10 (decimal entry.cpu ++ codes " " ++ decimal entry.k) (codes " ") k space in
     IsFree-append 10 (decimal entry.cpu ++ codes " " ++ decimal entry.k ++ codes " ") (reply_text entry.reply) front (IsFree-reply entry.reply fits.reply)
 
-three_parts : (c k r : List ℕ) → c ++ codes " " ++ k ++ codes " " ++ r ≡ c ++ (32 ∷ (k ++ (32 ∷ r)))
+pub three_parts : (c k r : List ℕ) → c ++ codes " " ++ k ++ codes " " ++ r ≡ c ++ (32 ∷ (k ++ (32 ∷ r)))
 three_parts c k r =
     append_assoc (c ++ codes " " ++ k) (32 ∷ []) r
     ∙ append_assoc (c ++ codes " ") k (32 ∷ r)
@@ -41,8 +41,8 @@ made_same c d k m r s ec ek er = ap (λ x. reported x k r) ec ∙ ap (λ x. repo
 unended_same : (a b : Entry) → EntryFits a → EntryFits b → unended a ≡ unended b → entry_report a ≡ entry_report b
 unended_same a b fa fb e =
     let whole = sym (three_parts (decimal a.cpu) (decimal a.k) (reply_text a.reply)) ∙ e ∙ three_parts (decimal b.cpu) (decimal b.k) (reply_text b.reply) in
-    let first = split_same 32 (decimal a.cpu) (decimal b.cpu) (decimal a.k ++ (32 ∷ reply_text a.reply)) (decimal b.k ++ (32 ∷ reply_text b.reply)) (IsFree-decimal 32 (omega arith) a.cpu fa.cpu) (IsFree-decimal 32 (omega arith) b.cpu fb.cpu) whole in
-    let second = split_same 32 (decimal a.k) (decimal b.k) (reply_text a.reply) (reply_text b.reply) (IsFree-decimal 32 (omega arith) a.k fa.k) (IsFree-decimal 32 (omega arith) b.k fb.k) first.1 in
+    let first = split_same 32 (decimal a.cpu) (decimal b.cpu) (decimal a.k ++ (32 ∷ reply_text a.reply)) (decimal b.k ++ (32 ∷ reply_text b.reply)) (IsFree-decimal 32 (omega arith) a.cpu) (IsFree-decimal 32 (omega arith) b.cpu) whole in
+    let second = split_same 32 (decimal a.k) (decimal b.k) (reply_text a.reply) (reply_text b.reply) (IsFree-decimal 32 (omega arith) a.k) (IsFree-decimal 32 (omega arith) b.k) first.1 in
     let cpu : a.cpu ≡ b.cpu = decimal_injective a.cpu b.cpu (omega (arith, fa.cpu)) (omega (arith, fb.cpu)) first.0 in
     let k : a.k ≡ b.k = decimal_injective a.k b.k (omega (arith, fa.k)) (omega (arith, fb.k)) second.0 in
     made_same a.cpu b.cpu a.k b.k a.reply b.reply cpu k (reply_same a.reply b.reply fa.reply fb.reply second.1)
@@ -52,7 +52,7 @@ no_line : (entry : Entry) (rest : List ℕ) → [] ≡ entry_line entry ++ rest 
 no_line entry rest e =
     omega (arith, ap length e, length-append (unended entry ++ (10 ∷ [])) rest, length-append (unended entry) (10 ∷ []))
 
-lines_same : (journal other : List Entry) → AllByRecursion EntryFits journal → AllByRecursion EntryFits other → journal_text journal ≡ journal_text other → SameLines journal other
+pub lines_same : (journal other : List Entry) → AllByRecursion EntryFits journal → AllByRecursion EntryFits other → journal_text journal ≡ journal_text other → SameLines journal other
 lines_same [] [] fa fb e = refl
 lines_same [] (b ∷ other) fa fb e = absurd (no_line b (journal_text other) e)
 lines_same (a ∷ journal) [] fa fb e = absurd (no_line a (journal_text journal) (sym e))

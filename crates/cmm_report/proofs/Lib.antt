@@ -4,3 +4,4 @@ pub mod Splits
 pub mod HexLaws
 pub mod ReplyLaws
 pub mod JournalLaws
+pub mod ReportLaws

@@ -54,7 +54,7 @@ counts_text pinned unslotted =
 counts_same : (p u q v : ℕ) → CauseFits (NoPage p u) → CauseFits (NoPage q v) → cause_text (NoPage p u) ≡ cause_text (NoPage q v) → NoPage p u ≡ NoPage q v
 counts_same p u q v fa fb e =
     let both = append_cancel_left (codes "fail nopage ") (decimal p ++ (32 ∷ decimal u)) (decimal q ++ (32 ∷ decimal v)) (sym (counts_text p u) ∙ e ∙ counts_text q v) in
-    let parts = split_same 32 (decimal p) (decimal q) (decimal u) (decimal v) (IsFree-decimal 32 (omega arith) p fa.0) (IsFree-decimal 32 (omega arith) q fb.0) both in
+    let parts = split_same 32 (decimal p) (decimal q) (decimal u) (decimal v) (IsFree-decimal 32 (omega arith) p) (IsFree-decimal 32 (omega arith) q) both in
     let pinned : p ≡ q = decimal_injective p q (omega arith) (omega arith) parts.0 in
     let unslotted : u ≡ v = decimal_injective u v (omega arith) (omega arith) parts.1 in
     ap (λ n. NoPage n u) pinned ∙ ap (λ n. NoPage q n) unslotted
@@ -89,9 +89,9 @@ IsFree-cause Disk fits = IsFree-text 10 (codes "fail disk") refl
 IsFree-cause Paging fits = IsFree-text 10 (codes "fail paging") refl
 IsFree-cause (NoPage pinned unslotted) fits =
     let head = IsFree-text 10 (codes "fail nopage ") refl in
-    let one = IsFree-append 10 (codes "fail nopage ") (decimal pinned) head (IsFree-decimal 10 (omega arith) pinned fits.0) in
+    let one = IsFree-append 10 (codes "fail nopage ") (decimal pinned) head (IsFree-decimal 10 (omega arith) pinned) in
     let two = IsFree-append 10 (codes "fail nopage " ++ decimal pinned) (codes " ") one (IsFree-text 10 (codes " ") refl) in
-    IsFree-append 10 (codes "fail nopage " ++ decimal pinned ++ codes " ") (decimal unslotted) two (IsFree-decimal 10 (omega arith) unslotted fits.1)
+    IsFree-append 10 (codes "fail nopage " ++ decimal pinned ++ codes " ") (decimal unslotted) two (IsFree-decimal 10 (omega arith) unslotted)
 
 -- the first letter of a reply's text
 abbrev reply_letter : Reply → ℕ

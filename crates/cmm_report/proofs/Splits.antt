@@ -1,13 +1,10 @@
 -- A text without a separator ends where the separator stands.
-use Rattle.std.proofs.Common.{◌≡◌, ◌≢◌, ◌∙◌, ℕ, ◌<◌, ◌^◌, List, [], ◌∷◌, ◌++◌, Bool, true, false, cond, eqb, inl, inr, get_or, refl, sym, ap, arith}
-use Rattle.std.specs.Prelude.{decimal}
+use Rattle.std.proofs.Common.{◌≡◌, ◌≢◌, ◌∙◌, ℕ, ◌/◌, ◌%◌, ◌<◌, ◌≤◌, List, [], ◌∷◌, ◌++◌, Bool, true, false, cond, eqb, inl, inr, get_or, refl, sym, ap, arith}
+use Rattle.std.specs.Prelude.{decimal, zero, suc, ◌==◌, if◌then◌else◌}
 use Rattle.std.specs.List.{AllByRecursion}
-use Rattle.std.specs.Str.Parse.{AllDigits}
-use Rattle.std.specs.Int.{IsInRange}
-use Rattle.std.proofs.lemmas.Str.Parse.{digit_from_value}
-use Rattle.std.proofs.lemmas.Fmt.{decimal_is_IsNumeral}
+use Rattle.std.specs.Fmt.{digit_glyph, digits, digits_onto}
 use Rattle.std.proofs.lemmas.Bool.{false≢true}
-use Rattle.std.proofs.lemmas.Bool.Decides.{eqb_tells}
+use Rattle.std.proofs.lemmas.Bool.Decides.{eqb_tells, nat_tests}
 
 abbrev pub tail_of : {A : Type 0} → List A → List A
 tail_of [] = []
@@ -36,14 +33,24 @@ split_same byte (x ∷ a) (y ∷ b) u v fa fb e =
     let rest = split_same byte a b u v fa.1 fb.1 (tail_same x y (a ++ (byte ∷ u)) (b ++ (byte ∷ v)) e) in
     (ap (λ z. z ∷ a) (head_same x y (a ++ (byte ∷ u)) (b ++ (byte ∷ v)) e) ∙ ap (λ t. y ∷ t) rest.0, rest.1)
 
-IsFree-digits : (byte : ℕ) → byte < 48 → (ds : List ℕ) → AllDigits 10 ds → IsFree byte ds
-IsFree-digits byte low [] digits = tt
-IsFree-digits byte low (c ∷ ds) digits =
-    let range : IsInRange 48 57 c = digit_from_value c digits.0 in
-    ((λ same. absurd (omega (arith, range, same))), IsFree-digits byte low ds digits.1)
+glyph_low : (d : ℕ) → 48 ≤ digit_glyph false d
+glyph_low d = grind (arith, nat_tests)
 
-pub IsFree-decimal : (byte : ℕ) → byte < 48 → (n : ℕ) → n < 2 ^ 32 → IsFree byte (decimal n)
-IsFree-decimal byte low n h = IsFree-digits byte low (decimal n) (decimal_is_IsNumeral n (omega arith)).0.1
+IsFree-onto : (byte : ℕ) → byte < 48 → (k n : ℕ) (text : List ℕ) → IsFree byte text → IsFree byte (digits_onto k 10 false n text)
+IsFree-onto byte low zero n text free = free
+IsFree-onto byte low (suc k) n text free =
+    elim (n / 10 == 0) as (λ last. IsFree byte (if last then digit_glyph false (n % 10) ∷ text else digits_onto k 10 false (n / 10) (digit_glyph false (n % 10) ∷ text))) [
+      | true ↦ more
+      | false ↦ IsFree-onto byte low k (n / 10) (digit_glyph false (n % 10) ∷ text) more
+    ]
+  where
+    more : IsFree byte (digit_glyph false (n % 10) ∷ text)
+    more = ((λ same. absurd (omega (arith, glyph_low (n % 10), same))), free)
+
+-- no number has a space or a line feed
+pub IsFree-decimal : (byte : ℕ) → byte < 48 → (n : ℕ) → IsFree byte (decimal n)
+unfolding digits
+IsFree-decimal byte low n = IsFree-onto byte low 64 n [] tt
 
 -- the test of a text that is written out
 abbrev pub is_free : ℕ → List ℕ → Bool

@@ -1,23 +1,29 @@
-use Rattle.std.proofs.Common.{◌≡◌, ◌∙◌, ℕ, ◌+◌, ◌<◌, ◌≤◌, List, [], ◌∷◌, ◌++◌, length, get_or, take, drop, Option, Result, Ok, Err, OnErr, refl, sym, ap, subst, append_assoc, arith}
-use Rattle.std.specs.List.{flat_map}
+use Rattle.std.proofs.Common.{◌≡◌, ◌∙◌, ℕ, ◌+◌, ◌<◌, List, [], ◌∷◌, ◌++◌, length, get_or, take, drop, Option, Result, Ok, Err, sym, ap, subst, append_assoc, arith}
+use Rattle.std.specs.Prelude.{IsErr}
 use Rattle.std.proofs.lemmas.List.{take_more, drop_more, take-append-drop, length-take-le, append-nil, get_or_default}
 use Rattle.std.proofs.lemmas.List.Concat.{flat_map-append}
 use Rattle.cmm_types.specs.declared.event.Answer.{Answer}
 use Rattle.cmm_types.specs.declared.command.Entry.{Entry}
-use Rattle.cmm_io.specs.SinkBytes.{behind, WrotePrefix}
-use Rattle.cmm_io.specs.SinkBytesLaws.{behind-behind, WrotePrefix-first, WrotePrefix-then}
+use Rattle.cmm_io.specs.SinkBytes.{Writes}
+use Rattle.cmm_io.specs.SinkBytesLaws.{Writes-then, Writes-stop}
+use Rattle.cmm_io.specs.declared.write.WriteFault.{WriteFault}
 use Rattle.cmm_report.specs.Lines.{event_line, entry_line}
 use Rattle.cmm_report.specs.Report.{events_text, journal_text}
 
--- what was done, and one more piece
-pub written_more : (before middle after : Option (List ℕ)) (done piece whole : List ℕ) → middle ≡ behind before done → after ≡ behind middle piece → whole ≡ done ++ piece → after ≡ behind before whole
-written_more before middle after done piece whole m a w =
-    a ∙ ap (λ o. behind o piece) m ∙ behind-behind before done piece ∙ ap (behind before) (sym w)
+module _ {K : Type 0} (faults : K → ℕ) (written : K → Option (List ℕ)) where
+  -- this text was written
+  abbrev pub Wrote : K → K → List ℕ → Type 0
+  Wrote old new text = Writes faults written old new text {T = Unit {0}} {E = WriteFault} (Ok tt)
 
--- what was done, and a prefix of the piece that failed, with more to come
-pub prefix_more : (before middle after : Option (List ℕ)) (done piece rest whole : List ℕ) → middle ≡ behind before done → WrotePrefix middle piece after → whole ≡ done ++ (piece ++ rest) → WrotePrefix before whole after
-prefix_more before middle after done piece rest whole m p w =
-    subst (λ t. WrotePrefix before t after) (sym w) (WrotePrefix-then before middle done (piece ++ rest) after m (WrotePrefix-first middle piece rest after p))
+  -- what was done, and one more piece
+  pub wrote_more : (old middle new : K) (done piece whole : List ℕ) → whole ≡ done ++ piece → Wrote old middle done → Wrote middle new piece → Wrote old new whole
+  wrote_more old middle new done piece whole parts first second =
+      subst (Wrote old new) (sym parts) (Writes-then faults written old middle new done piece tt (Ok tt) first second)
+
+  -- what was done, and a piece that failed, with more to come
+  pub stopped : (old middle new : K) (done piece rest whole : List ℕ) (cause : WriteFault) (result : Result (Unit {0}) WriteFault) → whole ≡ done ++ (piece ++ rest) → IsErr result → Wrote old middle done → Writes faults written middle new piece {T = Unit {0}} {E = WriteFault} (Err cause) → Writes faults written old new whole result
+  stopped old middle new done piece rest whole cause result parts failed first second =
+      subst (λ text. Writes faults written old new text result) (sym parts) (Writes-then faults written old middle new done (piece ++ rest) tt result first (Writes-stop faults written middle new piece rest cause result failed second))
 
 split_at : {X : Type 0} (xs : List X) (k : ℕ) (x : X) → k < length xs → x ≡ get_or xs k x → xs ≡ take k xs ++ (x ∷ drop (k + 1) xs)
 split_at xs k x l e = sym (take-append-drop k xs) ∙ ap (λ r. take k xs ++ r) (drop_more xs k x l ∙ ap (λ y. y ∷ drop (k + 1) xs) (sym e))
@@ -54,11 +60,6 @@ journal_more xs k x l e =
 pub journal_split : (xs : List Entry) (k : ℕ) (x : Entry) → k < length xs → x ≡ get_or xs k x → journal_text xs ≡ journal_text (take k xs) ++ (entry_line x ++ journal_text (drop (k + 1) xs))
 journal_split xs k x l e =
     ap journal_text (split_at xs k x l e) ∙ flat_map-append entry_line (take k xs) (x ∷ drop (k + 1) xs)
-
--- an exit with an error, of whichever value
-pub on_err : {T E Q : Type 0} (r : Result T E) → Q → OnErr r Q
-on_err (Ok x) q = tt
-on_err (Err e) q = q
 
 -- the events with an element that is read with any default
 pub events_more_at : (xs : List Answer) (k : ℕ) (d : Answer) → k < length xs → events_text 0 (take (k + 1) xs) ≡ events_text 0 (take k xs) ++ event_line k (get_or xs k d)

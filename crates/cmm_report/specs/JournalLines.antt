@@ -1,10 +1,11 @@
 -- What the lines of a journal say, and which numbers the entries of a program have.
-use Rattle.std.specs.Prelude.{ℕ, ◌<◌, ◌^◌, ◌≡◌, List, map}
+use Rattle.std.specs.Prelude.{ℕ, ◌<◌, ◌^◌, ◌≡◌, List, map, All}
 use Rattle.cmm_types.specs.declared.command.Entry.{Entry}
 use Rattle.cmm_types.specs.declared.command.Cause.{Cause}
 use Rattle.cmm_types.specs.declared.command.Cause.TheVariants.{Disk, Paging, NoPage}
 use Rattle.cmm_types.specs.declared.command.Reply.{Reply}
 use Rattle.cmm_types.specs.declared.command.Reply.TheVariants.{Done, Bytes, Refused, Fail}
+use Rattle.cmm_report.specs.Report.{GuestReport}
 
 -- what a report says of an entry: the processor, the number of its command, and the reply. The command is not written
 pub record EntryReport : Type 0 where
@@ -35,3 +36,15 @@ pub record EntryFits (entry : Entry) : Type 0 where
   pub cpu : entry.cpu < 2 ^ 32
   pub k : entry.k < 2 ^ 32
   pub reply : ReplyFits entry.reply
+
+-- what a report says of the entries of a guest's journal
+abbrev pub lines_of : GuestReport → List EntryReport
+lines_of guest = map entry_report guest.journal
+
+-- as many guests here as there, and at each place two journals with the same lines
+abbrev pub SameJournals : List GuestReport → List GuestReport → Type 0
+SameJournals guests others = map lines_of guests ≡ map lines_of others
+
+-- each number of the guest's journal fits its type
+abbrev pub JournalFits : GuestReport → Type 0
+JournalFits guest = All EntryFits guest.journal

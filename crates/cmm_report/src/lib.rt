@@ -8,7 +8,7 @@ mod lines;
 mod report;
 mod texts;
 
-pub use law::text_determines_journal;
+pub use law::{text_determines_journal, text_determines_journals};
 pub use report::{write_end, write_events, write_guest, write_head};
 
 #[cfg(test)]

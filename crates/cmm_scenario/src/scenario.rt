@@ -29,7 +29,9 @@ pub fn read_scenario(alloc: Global, bytes: &[u8]) -> Result<Scenario, ScenarioEr
         Ok(tree) => at_root(alloc, plan(alloc, &tree)),
         Err(e) => match e.classify() {
             Category::Memory => Err(ScenarioError::NoMemory),
-            _ => Err(ScenarioError::NotJson),
+            Category::Io | Category::Syntax | Category::Data | Category::Eof => {
+                Err(ScenarioError::NotJson)
+            }
         },
     }
 }

@@ -1,7 +1,7 @@
-use Rattle.std.proofs.Common.{◌≡◌, ◌≤◌, take}
-use Rattle.cmm_io.specs.SinkBytes.{behind}
+use Rattle.std.proofs.Common.{take}
 use Rattle.cmm_report.specs.Report.{journal_text}
+use Rattle.cmm_report.proofs.Written.{Wrote}
 use Rattle.cmm_report.proofs.report.write_journal.Given as goal
 
 abbrev pub invariant-loop-entry : goal.invariant-loop-entry
-invariant-loop-entry g l = (g.K.Sink.written l.out ≡ behind (g.K.Sink.written l.fn.out) (journal_text (take l.entry-index l.journal))) × (g.K.Sink.faults l.fn.out ≤ g.K.Sink.faults l.out)
+invariant-loop-entry g l = Wrote g.K.Sink.faults g.K.Sink.written l.fn.out l.out (journal_text (take l.entry-index l.journal))
