@@ -1,19 +1,31 @@
 -- What calls make of the pages of a noisy storage.
-use Rattle.std.specs.Prelude.{◌≡◌, ◌<◌, ℕ, List, length, true, false, Some, replicate, slice_index_or, slice_set}
+use Rattle.std.specs.Prelude.{◌≡◌, refl, ◌<◌, ℕ, List, length, true, false, Some, replicate, slice_index_or, slice_set}
 use Rattle.std.proofs.Common.{arith, ap, subst, inl, inr, ◌∙◌, get_or-set_other, get_or-set_same}
 use Rattle.std.proofs.Math.ListN.{length-set}
 use Rattle.std.proofs.lemmas.Bool.{cases_eq}
 use Rattle.cmm_types.specs.declared.page.TheConstants.{PAGE}
 use Rattle.cmm_types.specs.declared.page.Content.TheVariants.{Zero, Resident}
 use Rattle.essa_state.specs.declared.fields.Fields.{Fields}
-use Rattle.essa_state.specs.PageValue.{PageValue, IsValue, is_lost}
-use Rattle.cmm_storage.specs.StorageView.{has_bytes, touched_contents, zeros}
-use Rattle.cmm_storage.specs.NoisyState.{NoisyState, IsSound, noisy_value, opening_value}
+use Rattle.essa_state.specs.declared.orders.Order.{Order}
+use Rattle.essa_state.specs.declared.orders.Order.TheVariants.{SetUnused}
+use Rattle.essa_state.specs.PageValue.{PageValue, Contents, Bytes, IsValue, is_lost}
+use Rattle.cmm_storage.specs.StorageView.{content_after, has_bytes, touched_contents, zeros}
+use Rattle.cmm_storage.specs.NoisyState.{NoisyState, IsSound, noisy_content, noisy_value, opening_value}
 
 pub filled_value : (w w' : Fields) (bytes bytes' : List ℕ) → w.content ≡ Zero → is_lost (noisy_value w bytes).contents ≡ false →
     w' ≡ record w { content = Resident } → bytes' ≡ zeros →
     noisy_value w' bytes' ≡ record (noisy_value w bytes) { contents = touched_contents true (noisy_value w bytes).contents }
 filled_value w w' bytes bytes' zero kept word filled = grind arith
+
+-- a page that is never preserved stays where it is
+pub content_after-noisy : (code : Order) (contents : Contents) → content_after code (noisy_content contents) ≡ noisy_content contents
+content_after-noisy SetUnused (Bytes bytes) = refl
+content_after-noisy SetUnused contents = refl
+content_after-noisy code contents = refl
+
+pub noisy_content-same : (a b : Contents) → has_bytes a ≡ has_bytes b → noisy_content a ≡ noisy_content b
+noisy_content-same (Bytes bytes) b same = grind arith
+noisy_content-same a b same = grind arith
 
 pub zeros_filled : (bytes : List ℕ) (count : ℕ) → bytes ≡ replicate count 0 → count ≡ PAGE → bytes ≡ zeros
 unfolding zeros

@@ -1,5 +1,6 @@
 pub mod StorageCall
 pub mod StorageView
+pub mod HoldLaws
 pub mod Program
 pub mod Runs
 pub mod Views

@@ -1,8 +1,10 @@
 -- The pages of a noisy storage, as contracts see them.
 use Rattle.std.specs.Prelude.{◌≡◌, ◌<◌, ◌^◌, ℕ, List, [], length, Bool, true, false, Option, Some, None, replicate, slice_index_or}
+use Rattle.cmm_types.specs.declared.page.Content.{Content}
+use Rattle.cmm_types.specs.declared.page.Content.TheVariants.{Resident, Zero}
 use Rattle.cmm_types.specs.declared.page.Usage.TheVariants.{U}
 use Rattle.essa_state.specs.declared.fields.Fields.{Fields}
-use Rattle.essa_state.specs.PageValue.{PageValue, Blank, IsValue}
+use Rattle.essa_state.specs.PageValue.{PageValue, Contents, Bytes, Blank, Lost, IsValue}
 use Rattle.essa_state.specs.PageBody.{actual}
 use Rattle.cmm_storage.specs.StorageView.{StorageView, has_bytes}
 
@@ -24,6 +26,17 @@ opening_value = record { usage = U; changed = false; contents = Blank; count = 0
 abbrev pub noisy_opening : ℕ → NoisyState
 noisy_opening count = record { pages = replicate count opening_value; held = None; touched = false; faults = 0; misses = 0 }
 
+-- a page with bytes is in its frame
+abbrev pub noisy_content : Contents → Content
+noisy_content (Bytes bytes) = Resident
+noisy_content Blank = Zero
+noisy_content Lost = Zero
+
+-- where the held page is
+abbrev pub held_content : List PageValue → Option ℕ → Content
+held_content pages None = Zero
+held_content pages (Some page) = noisy_content (slice_index_or pages page opening_value).contents
+
 abbrev pub noisy_view : NoisyState → StorageView
 noisy_view s = record {
   pages = length s.pages;
@@ -34,6 +47,7 @@ noisy_view s = record {
   misses = s.misses;
   quiet = false;
   tells = true;
+  content = held_content s.pages s.held;
 }
 
 -- the held page is one of the pages, and has its bytes while it is touched; every page's value is one

@@ -1,12 +1,10 @@
 // A page of a noisy storage.
 ghost use Rattle.std.specs.Prelude.{◌≡◌, ◌+◌, ◌<◌, ◌≤◌, length, take, drop, true, false, IfOk};
 ghost use Rattle.cmm_types.specs.declared.page.TheConstants.{PAGE};
-ghost use Rattle.cmm_types.specs.declared.page.Content.TheVariants.{Resident};
 ghost use Rattle.essa_state.specs.declared.fields.TheConstants.{LAST_COUNT};
-ghost use Rattle.essa_state.specs.StateWord.{is_zero};
 ghost use Rattle.essa_state.specs.PageValue.{Bytes, IsValue, OrderStep, MayBecome, is_lost, may_lose};
-ghost use Rattle.cmm_storage.specs.StorageView.{IsBusyWord, IsWhole, bytes_of, has_bytes, stored_value, touched_contents, zeros};
-ghost use Rattle.cmm_storage.specs.NoisyState.{opening_value};
+ghost use Rattle.cmm_storage.specs.StorageView.{IsBusyWord, IsWhole, bytes_of, has_bytes, content_after, stored_value, touched_contents, zeros};
+ghost use Rattle.cmm_storage.specs.NoisyState.{noisy_content, opening_value};
 
 use cmm_types::{Content, Move, PAGE, Usage};
 use essa_state::{Fields, Old, Order, Word, apply_order, host_move};
@@ -87,8 +85,8 @@ impl NoisyPage {
         ensures step { OrderStep self.old code result.done self.new }
         ensures value { IsValue self.new }
         ensures usage { result.usage ≡ self.old.usage }
-        ensures zero { has_bytes self.old.contents ≡ false → is_zero result.content ≡ true }
-        ensures resident { has_bytes self.old.contents ≡ true → result.content ≡ Resident }
+        ensures content { result.content ≡ noisy_content self.old.contents }
+        ensures after { noisy_content self.new.contents ≡ content_after code (noisy_content self.old.contents) }
         ensures bytes { has_bytes self.new.contents ≡ has_bytes self.old.contents }
     {
         let (word, old) = apply_order(self.word, code);

@@ -1,7 +1,8 @@
 // A caller of any storage, over one whose host does what a list says.
-ghost use Rattle.std.specs.Prelude.{◌≡◌, ◌<◌, None};
+ghost use Rattle.std.specs.Prelude.{◌≡◌, ◌<◌, None, IsTrue};
 
 use crate::{Noise, NoisyStorage, Storage, Trap};
+use cmm_types::Content;
 use essa_state::Order;
 use std::alloc::{AllocError, Global};
 use std::test::Fail;
@@ -16,6 +17,27 @@ enum Seen {
 }
 
 const OFF: usize = 4092;
+
+// Whether a page that was touched is found resident, by an order and by another touch. Over any storage it always is.
+fn stays_resident<St: Storage>(st: &mut St, page: u32, code: Order) -> bool
+    requires page { page < (St.view st.old).pages }
+    requires none_held { (St.view st.old).held ≡ None }
+    ensures resident { IsTrue result }
+{
+    if st.take(page).is_err() {
+        return true;
+    }
+    st.order(page, Order::SetStable);
+    if st.touch(page).is_err() {
+        st.put(page);
+        return true;
+    }
+    st.order(page, code);
+    let old = st.order(page, Order::SetStable);
+    let again = st.touch(page).is_ok();
+    st.put(page);
+    again && old.content == Content::Resident
+}
 
 // Writes four bytes at the page's end, and leaves the page with this order.
 fn write<St: Storage>(st: &mut St, page: u32, bytes: [u8; 4], leave: Order) -> Seen
@@ -138,6 +160,21 @@ fn a_caller_meets_every_answer(rt: HostRuntime) -> Result<(), Fail> {
             (seen, faults),
             "{noises:?}, {leave:?}"
         );
+    }
+    Ok(())
+}
+
+#[test]
+fn a_touched_page_stays_resident(rt: HostRuntime) -> Result<(), Fail> {
+    use Noise::{Calm, NoFrame, PagerFails};
+    for (code, second_touch) in [
+        (Order::SetVolatile, PagerFails),
+        (Order::SetPotential, NoFrame),
+        (Order::SetUnused, PagerFails),
+    ] {
+        let noises = Vec::from_array(rt.alloc(), [Calm, Calm, second_touch])?;
+        let mut storage = NoisyStorage::open(rt.alloc(), 1, noises)?;
+        assert!(rt; stays_resident(&mut storage, 0, code), "{code:?}");
     }
     Ok(())
 }
