@@ -1,1 +1,3 @@
 pub mod Cycle
+pub mod Marked
+pub mod FirstMarked

@@ -1,4 +1,5 @@
-//! The clock by which the host chooses the page that it takes a frame from. The order is this project's own.
+//! The clock by which the host chooses the page that it takes a frame from, and marks by which the chosen page is found
+//! without a look at each. The order is this project's own.
 #![tactic(auto)]
 
 ghost use Rattle.std.specs.Prelude.{◌≡◌, ◌<◌, ◌+◌, length, IfSome, is_some, position, true, false, slice_index_or};
@@ -10,8 +11,11 @@ ghost use Rattle.host_clock.specs.Victim.{is_candidate, is_takeable, from_hand, 
 use cmm_types::Content;
 use essa_state::Word;
 
+mod marks;
 #[cfg(test)]
 mod tests;
+
+pub use marks::Marks;
 
 /// The place of the page to be taken, and the new hand. The page is the first without the reference bit, in cyclic
 /// order from the hand, that is resident and that nobody holds; where each of those was referenced, it is the first

@@ -1,22 +1,25 @@
 -- Each call of the host does what a storage's is to do.
 use Rattle.std.specs.Prelude.{◌≡◌, ◌≢◌, refl, ℕ, ◌<◌, ◌≤◌, List, length, take, drop, Bool, true, false, ◌||◌, Option, Some, None, Result, Ok, Err, is_ok, slice_index_or, slice_set}
 use Rattle.std.proofs.Common.{arith, ap, sym, subst, inl, inr, ◌∙◌, get_or-set_other, get_or-set_same}
+use Rattle.cmm_types.specs.declared.page.Content.{Content}
 use Rattle.cmm_types.specs.declared.page.Content.TheVariants.{Resident}
 use Rattle.cmm_io.specs.FailurePlan.{FailurePlan}
 use Rattle.cmm_io.specs.Faults.{HasRisen}
 use Rattle.essa_state.specs.declared.fields.Fields.{Fields}
 use Rattle.essa_state.specs.declared.orders.Order.{Order}
-use Rattle.essa_state.specs.StateWord.{is_resident, is_zero, is_discarded}
+use Rattle.essa_state.specs.StateWord.{is_resident, is_permitted, is_discarded}
 use Rattle.essa_state.specs.Orders.{order_done, after_order}
 use Rattle.essa_state.specs.PageValue.{PageValue, Bytes, is_lost, MayBecome, IsValue, OrderStep}
 use Rattle.essa_state.specs.PageBody.{Body, actual, frame_bytes}
 use Rattle.essa_state.specs.PageValueLaws.{actual-is_value, ordered-value}
+use Rattle.essa_state.specs.WordLaws.{ordered-permitted}
 use Rattle.cmm_storage.specs.declared.storage.Trap.{Trap}
 use Rattle.cmm_storage.specs.declared.storage.Trap.TheVariants.{Discarded, Paging, NoFrame}
+use Rattle.cmm_storage.specs.HoldLaws.{actual-placed, after_order-content}
 use Rattle.cmm_storage.specs.StorageCall.{StorageCall, Take, Touch, Give, TakeChange, Fetch, Store, Put}
-use Rattle.cmm_storage.specs.StorageView.{Follows, Keeps, bytes_of, write_at, stored_value, has_bytes}
+use Rattle.cmm_storage.specs.StorageView.{Follows, Keeps, IsPlaced, bytes_of, content_after, write_at, stored_value}
 use Rattle.host_plain.specs.MemoryState.{MemoryState, word_at, body_at, value_at, with_word, stored_at, old_of, opening_word, no_body}
-use Rattle.host_plain.specs.HostState.{HostState, IsHost, HostStep, CanCall, host_view, host_word, touch_of, touch_after, host_bytes, place_of, pages_of, pager_of, no_pager, held_word, with_host_word, stored, taken, given_back}
+use Rattle.host_plain.specs.HostState.{HostState, IsHost, HostStep, CanCall, host_view, held_content, host_word, touch_of, touch_after, host_bytes, place_of, pages_of, pager_of, no_pager, held_word, with_host_word, stored, taken, given_back}
 use Rattle.host_plain.proofs.Places.{place-below}
 use Rattle.host_plain.specs.Touches.{Touched, touched_page}
 use Rattle.host_plain.specs.Keeping.{TouchKeeps, TouchLeaves, FaultsOf, is_paged, faults_of}
@@ -48,7 +51,8 @@ take-follows h page is inside =
     let below : place < length m.words = place-below h h.guest page is is.guest inside in
     let same : value_at (with_word m place word) place ≡ value_at m place = word-same m place word below in
     let still : (i : ℕ) → i ≢ page → value_at (with_word m place word) (place_of h i) ≡ value_at m (place_of h i) = λ i other. word-other m place word (place_of h i) (place-other h i page other) in
-    let value : IsValue (value_at m place) = actual-is_value (word_at m place) (body_at m place) (is.memory.pages place below).permitted in (
+    let permitted : is_permitted (word_at m place) ≡ true = (is.memory.pages place below).permitted in
+    let value : IsValue (value_at m place) = actual-is_value (word_at m place) (body_at m place) permitted in (
       keeps_of h (with_word m place word) h.pagers (Some page) false page (λ i other. inl (still i other)) (omega arith),
       refl,
       λ q. still,
@@ -56,13 +60,15 @@ take-follows h page is inside =
       inl same,
       subst (λ (v : PageValue). IsValue v) (sym same) value,
       λ q. same,
+      actual-placed (word_at (with_word m place word) place) (body_at m place) (subst (λ (w : Fields). is_permitted w ≡ true) (sym (get_or-set_same m.words place word opening_word below)) permitted),
     )
 
-old-zero : (w : Fields) (body : Body) → has_bytes (actual w body).contents ≡ false → is_zero w.content ≡ true
-old-zero w body h = grind arith
+-- the held page is where its word says
+held-content : (h : HostState) (page : ℕ) → h.held ≡ Some page → (host_view h).content ≡ (host_word h page).content
+held-content h page held = ap (λ (p : Option ℕ). held_content h p) held
 
-old-bytes : (w : Fields) (body : Body) → has_bytes (actual w body).contents ≡ true → is_zero w.content ≡ false
-old-bytes w body h = grind arith
+same-content : (h k : HostState) (page : ℕ) → h.held ≡ Some page → k.held ≡ Some page → (host_word k page).content ≡ (host_word h page).content → (host_view k).content ≡ (host_view h).content
+same-content h k page before after same = held-content k page after ∙ same ∙ sym (held-content h page before)
 
 resident-content : (w : Fields) → is_resident w.content ≡ true → w.content ≡ Resident
 resident-content w h = grind arith
@@ -73,20 +79,22 @@ give-follows h page code is held =
     let m : MemoryState = h.memory in
     let place : ℕ = place_of h page in
     let word : Fields = after_order (word_at m place) code in
+    let k : HostState = with_host_word h page word in
     let below : place < length m.words = held-below h page is held in
+    let now : word_at k.memory place ≡ word = get_or-set_same m.words place word opening_word below in
+    let permitted : is_permitted word ≡ true = ordered-permitted (word_at m place) code (is.memory.pages place below).permitted in
+    let placed : IsPlaced (word_at k.memory place).content (value_at k.memory place) =
+    actual-placed (word_at k.memory place) (body_at k.memory place) (subst (λ (w : Fields). is_permitted w ≡ true) (sym now) permitted) in
     let same : value_at (with_word m place word) place ≡ actual word (body_at m place) = word-same m place word below in
     let still : (i : ℕ) → i ≢ page → value_at (with_word m place word) (place_of h i) ≡ value_at m (place_of h i) = λ i other. word-other m place word (place_of h i) (place-other h i page other) in (
       keeps_of h (with_word m place word) h.pagers h.held h.touched page (λ i other. inl (still i other)) (omega arith),
       refl,
       λ q. still,
       (held, refl),
-      record {
-        usage = refl;
-        zero = old-zero (word_at m place) (body_at m place);
-        bytes = old-bytes (word_at m place) (body_at m place);
-        resident = λ touched. resident-content (word_at m place) (is.resident page held touched);
-      },
+      record { usage = refl; content = sym (held-content h page held) },
       subst (λ (v : PageValue). OrderStep (value_at m place) code (order_done (word_at m place) code) v) (sym same) (ordered-value (word_at m place) (body_at m place) code),
+      held-content k page held ∙ ap (λ (w : Fields). w.content) now ∙ after_order-content (word_at m place) code ∙ sym (ap (λ (c : Content). content_after code c) (held-content h page held)),
+      subst (λ (c : Content). IsPlaced c (value_at k.memory place)) (sym (held-content k page held)) placed,
     )
 
 take_change-follows : (h : HostState) (page : ℕ) → IsHost h → h.held ≡ Some page →
@@ -103,6 +111,7 @@ take_change-follows h page is held =
       (held, refl),
       refl,
       word-same m place word below,
+      same-content h (with_host_word h page word) page held held (ap (λ (w : Fields). w.content) (get_or-set_same m.words place word opening_word below)),
     )
 
 resident-bytes : (w : Fields) (body : Body) → is_resident w.content ≡ true → bytes_of (actual w body).contents ≡ frame_bytes body
@@ -118,6 +127,7 @@ fetch-follows h page off bytes is held touched read =
       λ q i other. refl,
       ((held, refl), refl),
       λ q. rw (resident-bytes (word_at m place) (body_at m place) (is.resident page held touched)) read,
+      refl,
     )
 
 stored-actual : (w : Fields) (body : Body) (off : ℕ) (bytes : List ℕ) → is_resident w.content ≡ true →
@@ -146,6 +156,7 @@ store-follows h page off bytes is held touched =
       λ q. still,
       (held, refl),
       same ∙ stored-actual (word_at m place) (body_at m place) off bytes (is.resident page held touched),
+      same-content h (stored h page off bytes) page held held (ap (λ (w : Fields). w.content) (get_or-set_same m.words place word opening_word below)),
     )
 
 put-follows : (h : HostState) (page : ℕ) → IsHost h → h.held ≡ Some page → Follows (host_view h) (Put page) (host_view (given_back h page))
@@ -186,12 +197,18 @@ touch-by h page r n pager is held keeps leaves never_falls risen = at r leaves r
     now : faults_of (slice_index_or (slice_set h.pagers h.guest pager) h.guest no_pager) ≡ faults_of pager
     now = ap (λ (p : FailurePlan). faults_of p) (get_or-set_same h.pagers h.guest pager no_pager is.guest)
 
+    after : (touched : Bool) → HostState
+    after touched = host_with h n (slice_set h.pagers h.guest pager) h.own h.held touched
+
+    before-resident : is_resident (host_view h).content ≡ true → is_resident (word_at m place).content ≡ true
+    before-resident resident = ap (λ (c : Content). is_resident c) (sym (held-content h page held)) ∙ resident
+
     kept : (touched : Bool) → Keeps (host_view h) page (host_view (host_with h n (slice_set h.pagers h.guest pager) h.own h.held touched))
     kept touched = keeps_of h n (slice_set h.pagers h.guest pager) h.held touched page (λ i other. keeps.others (place_of h i) (place-other h i page other)) (omega (arith, now, never_falls))
 
     at : (a : Result Unit Trap) → TouchLeaves a h.memory (place_of h page) n → (a ≡ Err Paging → HasRisen (faults_of (pager_of h h.guest)) (faults_of pager)) →
         Follows (host_view h) (Touch page a) (host_view (host_with h n (slice_set h.pagers h.guest pager) h.own h.held (is_ok a || h.touched)))
-    at (Ok done) (there, resident, value) rises =
+    at (Ok done) (there, resident, value, used) rises =
         let below : place < length n.words = rw keeps.count (held-below h page is held) in
         let found = keeps.sound.pages place below in (
           kept true,
@@ -200,6 +217,9 @@ touch-by h page r n pager is held keeps leaves never_falls risen = at r leaves r
           lost-discarded (word_at m place) (body_at m place) ∙ there,
           value,
           λ q. record { all = frame_bytes (body_at n place); are = resident-contents (word_at n place) (body_at n place) resident; size = found.whole.bytes (found.fits ∙ resident) },
+          held-content (after true) page held ∙ resident-content (word_at n place) resident,
+          λ before q i other. ap (λ (k : MemoryState). value_at k (place_of h i)) (used (before-resident before))
+              ∙ word-other m place (record (word_at m place) { referenced = true }) (place_of h i) (place-other h i page other),
         )
     at (Err Discarded) (gone, same) rises = (
       kept h.touched,
@@ -207,6 +227,7 @@ touch-by h page r n pager is held keeps leaves never_falls risen = at r leaves r
       λ q i other. ap (λ (k : MemoryState). value_at k (place_of h i)) same,
       ((held, refl), ap (λ (k : MemoryState). value_at k place) same),
       lost-discarded (word_at m place) (body_at m place) ∙ gone,
+      same-content h (after h.touched) page held held (ap (λ (k : MemoryState). (word_at k place).content) same),
     )
     at (Err Paging) (there, absent, (word, body)) rises = (
       kept h.touched,
@@ -215,6 +236,8 @@ touch-by h page r n pager is held keeps leaves never_falls risen = at r leaves r
       lost-discarded (word_at m place) (body_at m place) ∙ there,
       not-touched h.touched (is_resident (word_at m place).content) (is.resident page held) absent,
       rw now (rises refl),
+      same-content h (after h.touched) page held held (ap (λ (w : Fields). w.content) word),
+      ap (λ (c : Content). is_resident c) (held-content h page held) ∙ absent,
     )
     at (Err (NoFrame looks)) leaves rises = absurd leaves
 

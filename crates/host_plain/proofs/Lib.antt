@@ -5,7 +5,6 @@ pub mod Keeping
 pub mod Touching
 pub mod Calling
 pub mod Opening
-pub mod Marked
 pub mod Choosing
 pub mod Places
 pub mod Sound

@@ -9,11 +9,11 @@ use Rattle.essa_state.specs.Orders.{after_order}
 use Rattle.cmm_storage.specs.StorageCall.{StorageCall, Take, Touch, Give, TakeChange, Fetch, Store, Put}
 use Rattle.cmm_storage.specs.Views.{page_of}
 use Rattle.host_plain.specs.MemoryState.{MemoryState, value_at, with_word, stored_at}
-use Rattle.host_plain.specs.HostState.{HostState, IsHost, HostStep, CanCall, AreStarts, SparesOthers, Leaves, place_of, pages_of, pager_of, no_pager, start_of, value_of, host_word, held_word, touch_of, touch_after}
+use Rattle.host_plain.specs.HostState.{HostState, IsHost, HostStep, CanCall, AreStarts, SparesOthers, Leaves, Serves, place_of, pages_of, pager_of, no_pager, start_of, value_of, host_word, held_word, touch_of, touch_after}
 use Rattle.host_plain.proofs.Touching.{touched_page-keeps}
 use Rattle.host_plain.proofs.Places.{span-of}
 use Rattle.host_plain.proofs.Sound.{host_with, held-below}
-use Rattle.host_plain.proofs.Follows.{word-other, stored-other, host_stays}
+use Rattle.host_plain.proofs.Follows.{host_follows, word-other, stored-other, host_stays}
 
 spares_by : (h : HostState) (page : ℕ) (n : MemoryState) (held : Option ℕ) (touched : Bool) → n.frames ≡ h.memory.frames →
     ((place : ℕ) → place ≢ place_of h page → MayBecome (value_at h.memory place) (value_at n place)) → SparesOthers h page (host_with h n h.pagers h.own held touched)
@@ -59,6 +59,9 @@ call-below h (Put page) is held = is.below page held
 
 pub host_leaves : (h : HostState) (call : StorageCall) (k : HostState) → IsHost h → CanCall h call → HostStep h call k → Leaves h (page_of call) k
 host_leaves h call k is can step = record { sound = host_stays h call k is can step; below = call-below h call is can; spares = host_spares h call k is can step }
+
+pub host_serves : (h : HostState) (call : StorageCall) (k : HostState) → IsHost h → CanCall h call → HostStep h call k → Serves h call k
+host_serves h call k is can step = record { step = step; follows = host_follows h call k is can step; leaves = host_leaves h call k is can step }
 
 -- so many guests further on, pages start no sooner
 start-rises : (starts : List ℕ) (guests pages : ℕ) → AreStarts starts guests pages → (guest more : ℕ) → guest + more ≤ guests → slice_index_or starts guest 0 ≤ slice_index_or starts (guest + more) 0

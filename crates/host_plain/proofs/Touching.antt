@@ -167,6 +167,7 @@ used_after-leaves m page step below absent kept = at step.done
       kept,
       rw (get_or-set_same step.memory.words page (record (word_at step.memory page) { referenced = true }) opening_word below) resident,
       rw (get_or-set_same step.memory.words page (record (word_at step.memory page) { referenced = true }) opening_word below) value,
+      λ there. absurd (let bad : true ≡ false = sym there ∙ absent in cc),
     )
     at false still = (kept, absent, still)
 
@@ -205,6 +206,7 @@ touched_page-leaves m page pager sound below = at (is_discarded (word_at m page)
       kept,
       rw (get_or-set_same m.words page (record (word_at m page) { referenced = true }) opening_word below) resident,
       rw (get_or-set_same m.words page (record (word_at m page) { referenced = true }) opening_word below) (used-value (word_at m page) (body_at m page) resident),
+      λ there. refl,
     )
     at false kept false absent =
         used_after-leaves m page (filled_after (freed m pager) page) (rw (filled_after-keeps m page pager sound below absent).count below) absent kept (filled_after-leaves m page pager sound below absent kept)

@@ -2,6 +2,8 @@
 use Rattle.std.specs.Prelude.{◌≡◌, ◌≢◌, ℕ, ◌+◌, ◌-◌, ◌≤◌, ◌<◌, List, [], length, take, drop, Bool, true, false, ◌||◌, Option, Some, None, Ok, Err, is_ok, is_some, slice_get, slice_index_or, slice_set, map, sum, Result}
 use Rattle.std.specs.List.{range_with_len}
 use Rattle.cmm_types.specs.declared.page.TheConstants.{PAGE}
+use Rattle.cmm_types.specs.declared.page.Content.{Content}
+use Rattle.cmm_types.specs.declared.page.Content.TheVariants.{Zero}
 use Rattle.cmm_types.specs.declared.page.Move.{Move}
 use Rattle.cmm_io.specs.Faults.{HasRisen}
 use Rattle.cmm_io.specs.FailurePlan.{FailurePlan}
@@ -12,7 +14,8 @@ use Rattle.essa_state.specs.Orders.{after_order}
 use Rattle.essa_state.specs.PageValue.{PageValue, MayBecome}
 use Rattle.essa_state.specs.PageBody.{frame_bytes}
 use Rattle.cmm_storage.specs.StorageCall.{StorageCall, Take, Touch, Give, TakeChange, Fetch, Store, Put}
-use Rattle.cmm_storage.specs.StorageView.{StorageView}
+use Rattle.cmm_storage.specs.StorageView.{StorageView, Follows}
+use Rattle.cmm_storage.specs.Views.{page_of}
 use Rattle.host_plain.specs.MemoryState.{MemoryState, IsMemory, word_at, body_at, value_at, with_word, stored_at, old_of, opening_memory}
 use Rattle.host_plain.specs.Numbering.{number_at}
 use Rattle.host_plain.specs.HostMoves.{Applied, Reclaimed, applied, reclaimed}
@@ -122,6 +125,11 @@ CanCall h (Fetch page off bytes) = (h.held ≡ Some page) × (h.touched ≡ true
 CanCall h (Store page off bytes) = (h.held ≡ Some page) × (h.touched ≡ true) × (off + length bytes ≤ PAGE)
 CanCall h (Put page) = h.held ≡ Some page
 
+-- where the contents of the held page are, by its word
+abbrev pub held_content : HostState → Option ℕ → Content
+held_content h None = Zero
+held_content h (Some page) = (host_word h page).content
+
 -- what the served guest may know. The host is quiet: no page is ever busy, and a frame is always found
 abbrev pub host_view : HostState → StorageView
 host_view h = record {
@@ -133,6 +141,7 @@ host_view h = record {
   misses = 0;
   quiet = true;
   tells = true;
+  content = held_content h h.held;
 }
 
 -- the host serves another guest
@@ -225,6 +234,13 @@ pub record Leaves (h : HostState) (page : ℕ) (k : HostState) : Type 0 where
   pub sound : IsHost k
   pub below : page < pages_of h h.guest
   pub spares : SparesOthers h page k
+
+-- a call on a page of the served guest: the step that it is of the host, which is what a storage's call is to do, and
+-- which leaves the rest of the host alone
+pub record Serves (h : HostState) (call : StorageCall) (k : HostState) : Type 0 where
+  pub step : HostStep h call k
+  pub follows : Follows (host_view h) call (host_view k)
+  pub leaves : Leaves h (page_of call) k
 
 -- what a whole run on the served guest's pages leaves: a sound host, and the pages of every other guest as the host may
 -- have made them

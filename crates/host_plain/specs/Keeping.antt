@@ -12,7 +12,7 @@ use Rattle.host_clock.specs.Victim.{is_candidate}
 use Rattle.host_plain.specs.declared.moves.ApplyError.{ApplyError}
 use Rattle.host_plain.specs.declared.moves.ApplyError.TheVariants.{Refused, Paging}
 use Rattle.host_plain.specs.HostMoves.{Reclaimed}
-use Rattle.host_plain.specs.MemoryState.{MemoryState, IsMemory, word_at, body_at, value_at}
+use Rattle.host_plain.specs.MemoryState.{MemoryState, IsMemory, word_at, body_at, value_at, with_use}
 
 -- the memory is sound; it has the pages and the frames that it had, and each page is busy exactly where it was. Each
 -- page's value may become another only as a guest allows it
@@ -35,11 +35,13 @@ pub record TouchKeeps (m : MemoryState) (page : ℕ) (k : MemoryState) : Type 0 
 abbrev pub SamePage : MemoryState → ℕ → MemoryState → Type 0
 SamePage m place k = (word_at k place ≡ word_at m place) × (body_at k place ≡ body_at m place)
 
--- what each answer of a touch says of the page that is touched, before and afterwards
+-- what each answer of a touch says of the page that is touched, before and afterwards; one that is resident already is
+-- only used
 abbrev pub TouchLeaves : Result Unit Trap → MemoryState → ℕ → MemoryState → Type 0
 TouchLeaves (Ok done) m page k =
     (is_discarded (word_at m page) ≡ false) × (is_resident (word_at k page).content ≡ true)
     × (value_at k page ≡ record (value_at m page) { contents = touched_contents true (value_at m page).contents })
+    × (is_resident (word_at m page).content ≡ true → k ≡ with_use m page)
 TouchLeaves (Err Discarded) m page k = (is_discarded (word_at m page) ≡ true) × (k ≡ m)
 TouchLeaves (Err NoPage) m page k =
     (is_discarded (word_at m page) ≡ false) × (is_resident (word_at m page).content ≡ false) × SamePage m page k

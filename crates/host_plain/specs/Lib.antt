@@ -6,5 +6,5 @@ pub mod Touches
 pub mod HostMoves
 pub mod HostState
 pub mod Keeping
-pub mod Marking
+pub mod Candidates
 pub mod Served

@@ -4,12 +4,11 @@ ghost use Rattle.cmm_types.specs.declared.page.TheConstants.{PAGE};
 ghost use Rattle.cmm_types.specs.declared.plan.TheConstants.{MAX_FRAMES, MAX_TOTAL_PAGES};
 ghost use Rattle.cmm_io.specs.Faults.{HasRisen};
 ghost use Rattle.cmm_storage.specs.StorageCall.{Take, Touch, Give, TakeChange, Fetch, Store, Put};
-ghost use Rattle.cmm_storage.specs.StorageView.{Follows};
 ghost use Rattle.page_arena.specs.FrameView.{IsOf, missing};
 ghost use Rattle.host_plain.specs.MemoryState.{resident_of};
 ghost use Rattle.host_plain.specs.Keeping.{faults_of};
 ghost use Rattle.host_plain.specs.Served.{host_of};
-ghost use Rattle.host_plain.specs.HostState.{HostState, HostStep, IsHost, Leaves, HaveOwnFrames, host_view, host_word, place_of, start_of, pages_of, pager_of, words_of, served, HostMayMake, ApplyTells, opening, starts_of, after_move, move_of, after_reclaim, reclaim_of};
+ghost use Rattle.host_plain.specs.HostState.{HostState, IsHost, Serves, HaveOwnFrames, host_word, place_of, start_of, pages_of, pager_of, words_of, served, HostMayMake, ApplyTells, opening, starts_of, after_move, move_of, after_reclaim, reclaim_of};
 
 use crate::memory::Memory;
 use crate::moves::{ApplyError, Reclaim};
@@ -205,9 +204,7 @@ impl Host {
     pub(crate) fn take(&mut self, page: u32)
         requires page { page < pages_of self.old self.old.guest }
         requires none_held { self.old.held ≡ None }
-        ensures step { HostStep self.old (Take page (Ok tt)) self.new }
-        ensures follows { Follows (host_view self.old) (Take page (Ok tt)) (host_view self.new) }
-        ensures leaves { Leaves self.old page self.new }
+        ensures { Serves self.old (Take page (Ok tt)) self.new }
     {
         let place = self.place_of(page);
         let fields = self.memory.fields(place);
@@ -224,9 +221,7 @@ impl Host {
 
     pub(crate) fn touch(&mut self, page: u32) -> Result<(), Trap>
         requires held { self.old.held ≡ Some page }
-        ensures step { HostStep self.old (Touch page result) self.new }
-        ensures follows { Follows (host_view self.old) (Touch page result) (host_view self.new) }
-        ensures leaves { Leaves self.old page self.new }
+        ensures { Serves self.old (Touch page result) self.new }
     {
         let place = self.place_of(page);
         let touched = self.memory.touch(place, &mut self.pagers[self.guest]);
@@ -236,9 +231,7 @@ impl Host {
 
     pub(crate) fn order(&mut self, page: u32, code: Order) -> Old
         requires held { self.old.held ≡ Some page }
-        ensures step { HostStep self.old (Give page code result) self.new }
-        ensures follows { Follows (host_view self.old) (Give page code result) (host_view self.new) }
-        ensures leaves { Leaves self.old page self.new }
+        ensures { Serves self.old (Give page code result) self.new }
     {
         let place = self.place_of(page);
         self.memory.order(place, code)
@@ -246,9 +239,7 @@ impl Host {
 
     pub(crate) fn take_change(&mut self, page: u32) -> bool
         requires held { self.old.held ≡ Some page }
-        ensures step { HostStep self.old (TakeChange page result) self.new }
-        ensures follows { Follows (host_view self.old) (TakeChange page result) (host_view self.new) }
-        ensures leaves { Leaves self.old page self.new }
+        ensures { Serves self.old (TakeChange page result) self.new }
     {
         let place = self.place_of(page);
         let fields = self.memory.fields(place);
@@ -266,9 +257,7 @@ impl Host {
         requires held { self.now.held ≡ Some page }
         requires touched { self.now.touched ≡ true }
         requires within { off + length into.old ≤ PAGE }
-        ensures step { HostStep self.now (Fetch page off into.new) self.now }
-        ensures follows { Follows (host_view self.now) (Fetch page off into.new) (host_view self.now) }
-        ensures leaves { Leaves self.now page self.now }
+        ensures { Serves self.now (Fetch page off into.new) self.now }
     {
         let memory = &self.memory;
         memory.fetch(self.place_of(page), off, into);
@@ -278,9 +267,7 @@ impl Host {
         requires held { self.old.held ≡ Some page }
         requires touched { self.old.touched ≡ true }
         requires within { off + length from.now ≤ PAGE }
-        ensures step { HostStep self.old (Store page off from.now) self.new }
-        ensures follows { Follows (host_view self.old) (Store page off from.now) (host_view self.new) }
-        ensures leaves { Leaves self.old page self.new }
+        ensures { Serves self.old (Store page off from.now) self.new }
     {
         let place = self.place_of(page);
         self.memory.store(place, off, from);
@@ -288,9 +275,7 @@ impl Host {
 
     pub(crate) fn put(&mut self, page: u32)
         requires held { self.old.held ≡ Some page }
-        ensures step { HostStep self.old (Put page) self.new }
-        ensures follows { Follows (host_view self.old) (Put page) (host_view self.new) }
-        ensures leaves { Leaves self.old page self.new }
+        ensures { Serves self.old (Put page) self.new }
     {
         let place = self.place_of(page);
         let fields = self.memory.fields(place);

@@ -5,7 +5,6 @@
 mod bodies;
 mod body;
 mod host;
-mod marks;
 mod memory;
 mod moves;
 mod view;

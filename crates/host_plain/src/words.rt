@@ -3,11 +3,12 @@ ghost use Rattle.std.specs.Prelude.{◌≡◌, ◌<◌, ◌+◌, ◌-◌, ◌≤
 ghost use Rattle.host_clock.specs.Victim.{is_candidate, is_takeable, wrapped, victim_of};
 ghost use Rattle.host_plain.specs.MemoryState.{opening_word};
 ghost use Rattle.host_plain.specs.Eviction.{aged_candidate, aged_words};
-ghost use Rattle.host_plain.specs.Marking.{NoCandidates, first_marked, chosen_at};
+ghost use Rattle.host_clock.specs.Marking.{chosen_at};
+ghost use Rattle.host_plain.specs.Candidates.{NoCandidates};
 
-use crate::marks::Marks;
 use cmm_types::{Content, MAX_TOTAL_PAGES, Usage};
 use essa_state::{Fields, Word};
+use host_clock::Marks;
 use std::alloc::{AllocError, Global};
 use std::marker::Model;
 
@@ -68,19 +69,6 @@ fn aged_candidate(word: Word) -> Word
     }
 }
 
-// The first marked place in cyclic order from the hand, of so many.
-fn first_from(marks: &Marks, hand: usize, count: usize) -> Option<usize>
-    requires count { count ≡ length marks.now }
-    requires hand { hand < count }
-    ensures first { result ≡ first_marked marks.now hand }
-    ensures within { IfSome result (λ place. place < count) }
-{
-    match marks.next(hand, count) {
-        Some(place) => Some(place),
-        None => marks.next(0, hand),
-    }
-}
-
 impl Words {
     /// The words of so many unused pages without contents.
     pub fn open(alloc: Global, count: usize) -> Result<Words, AllocError>
@@ -135,10 +123,9 @@ impl Words {
         requires { hand < length self.now }
         ensures { chosen_at (length self.now) result ≡ victim_of self.now hand }
     {
-        let count = self.words.len();
-        match first_from(&self.unreferenced, hand, count) {
+        match self.unreferenced.first(hand) {
             Some(place) => Some(place),
-            None => first_from(&self.candidates, hand, count),
+            None => self.candidates.first(hand),
         }
     }
 

@@ -1,8 +1,7 @@
 use Rattle.std.proofs.Common.{rules, subst}
 use Rattle.host_plain.specs.HostState.{HostState, IsHost}
 use Rattle.cmm_storage.specs.StorageCall.{Put}
-use Rattle.host_plain.proofs.Follows.{host_follows, host_stays}
-use Rattle.host_plain.proofs.Others.{host_leaves}
+use Rattle.host_plain.proofs.Others.{host_serves}
 use Rattle.host_plain.proofs.host.Host.put.Goals as goal
 
 pub place_of-place-requires : goal.place_of-place-requires
@@ -10,20 +9,10 @@ place_of-place-requires c =
     let is : IsHost c.args.self.now = subst (λ (h : HostState). IsHost h) c.self.view_is c.self.invariant in
     is.below c.args.page c.requires.held
 
-pub returns-clause-step : goal.returns-clause-step
-returns-clause-step c = search rules
-
-pub returns-clause-follows : goal.returns-clause-follows
-returns-clause-follows c =
+pub returns : goal.returns
+returns c =
     let is : IsHost c.args.self.now = subst (λ (h : HostState). IsHost h) c.self.view_is c.self.invariant in
-    host_follows c.args.self.now (Put c.args.page) _ is c.requires.held (returns-clause-step c)
+    host_serves c.args.self.now (Put c.args.page) _ is c.requires.held (search rules)
 
 pub invariant_of-self : goal.invariant_of-self
-invariant_of-self c =
-    let is : IsHost c.args.self.now = subst (λ (h : HostState). IsHost h) c.self.view_is c.self.invariant in
-    host_stays c.args.self.now (Put c.args.page) _ is c.requires.held (returns-clause-step c)
-
-pub returns-clause-leaves : goal.returns-clause-leaves
-returns-clause-leaves c =
-    let is : IsHost c.args.self.now = subst (λ (h : HostState). IsHost h) c.self.view_is c.self.invariant in
-    host_leaves c.args.self.now (Put c.args.page) _ is c.requires.held (returns-clause-step c)
+invariant_of-self c = (returns c).leaves.sound

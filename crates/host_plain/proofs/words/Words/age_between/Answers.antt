@@ -1,7 +1,7 @@
 use Rattle.std.proofs.Common.{◌≡◌, ◌<◌, ◌-◌, List, arith, length, sym, ap, ◌∙◌, subst}
 use Rattle.std.proofs.Math.ListN.{length-set}
 use Rattle.essa_state.specs.declared.fields.Fields.{Fields}
-use Rattle.host_plain.specs.Marking.{NoCandidates}
+use Rattle.host_plain.specs.Candidates.{NoCandidates}
 use Rattle.host_plain.proofs.Choosing.{aged_words-step, aged_words-up_to, aged_words-zero}
 use Rattle.host_plain.proofs.words.Words.age_between.Goals as goal
 

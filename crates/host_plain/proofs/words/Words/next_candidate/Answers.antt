@@ -1,7 +1,7 @@
 use Rattle.std.proofs.Common.{◌≤◌, List, length, sym, subst}
 use Rattle.std.specs.Prelude.{IfSome, IfNone}
 use Rattle.essa_state.specs.declared.fields.Fields.{Fields}
-use Rattle.host_plain.specs.Marking.{NoCandidates}
+use Rattle.host_plain.specs.Candidates.{NoCandidates}
 use Rattle.host_plain.proofs.Choosing.{no-candidates-to, no-candidates-before}
 use Rattle.host_plain.proofs.words.Words.next_candidate.Goals as goal
 

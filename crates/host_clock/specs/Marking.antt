@@ -1,9 +1,7 @@
--- Marked places in a list, and the counts of them by which the next one is found.
-use Rattle.std.specs.Option.{option_map}
-use Rattle.essa_state.specs.declared.fields.Fields.{Fields}
-use Rattle.host_clock.specs.Victim.{is_candidate, wrapped}
-use Rattle.host_plain.specs.MemoryState.{opening_word}
+-- Marked places in a list, the counts of them by which the next one is found, and the victim that marks give.
 use Rattle.std.specs.Prelude.{◌≡◌, ℕ, zero, suc, ◌+◌, ◌-◌, ◌*◌, ◌<◌, ◌≤◌, List, ◌++◌, length, take, drop, position, Option, Bool, false, if◌then◌else◌, slice_index_or}
+use Rattle.std.specs.Option.{option_map}
+use Rattle.host_clock.specs.Victim.{wrapped}
 
 abbrev pub is_marked : List Bool → ℕ → Bool
 is_marked marks place = slice_index_or marks place false
@@ -36,7 +34,3 @@ first_marked marks hand = option_map (λ steps. wrapped (length marks) (hand + s
 -- the place and the hand after it, among so many
 abbrev pub chosen_at : ℕ → Option ℕ → Option (ℕ × ℕ)
 chosen_at count place = option_map (λ (p : ℕ). (p, wrapped count (p + 1))) place
-
--- from a place on, and below another
-abbrev pub NoCandidates : List Fields → ℕ → ℕ → Type 0
-NoCandidates words from to = (place : ℕ) → from ≤ place → place < to → is_candidate (slice_index_or words place opening_word) ≡ false

@@ -1,6 +1,6 @@
 // A set of places, in which the next one from a place on is found without a look at each place.
-ghost use Rattle.std.specs.Prelude.{◌≡◌, ◌+◌, ◌-◌, ◌*◌, ◌/◌, ◌^◌, ◌<◌, ◌≤◌, ℕ, length, replicate, true, false, IfOk, IfSome, IfNone, if◌then◌else◌, slice_index_or, slice_set};
-ghost use Rattle.host_plain.specs.Marking.{is_marked, NoneMarked, recounted};
+ghost use Rattle.std.specs.Prelude.{◌≡◌, ◌+◌, ◌-◌, ◌*◌, ◌/◌, ◌^◌, ◌<◌, ◌≤◌, ℕ, length, replicate, true, false, ◌↔◌, IsTrue, IfOk, IfSome, IfNone, if◌then◌else◌, slice_index_or, slice_set};
+ghost use Rattle.host_clock.specs.Marking.{is_marked, NoneMarked, first_marked, recounted};
 
 use cmm_types::MAX_TOTAL_PAGES;
 use std::alloc::{AllocError, Global};
@@ -22,8 +22,8 @@ pub struct Marks {
 impl Model for Marks {
     ghost use Rattle.std.specs.Prelude.{◌≤◌, List, Bool, length};
     ghost use Rattle.cmm_types.specs.declared.plan.TheConstants.{MAX_TOTAL_PAGES};
-    ghost use Rattle.host_plain.specs.declared.marks.TheConstants.{BLOCK, GROUP};
-    ghost use Rattle.host_plain.specs.Marking.{AreCounts};
+    ghost use Rattle.host_clock.specs.declared.marks.TheConstants.{BLOCK, GROUP};
+    ghost use Rattle.host_clock.specs.Marking.{AreCounts};
 
     ghost Value = { List Bool };
 
@@ -86,6 +86,32 @@ impl Marks {
             return BLOCK;
         }
         if self.marks[place] { 0 } else { 1 }
+    }
+
+    /// How many places there are, marked or not.
+    pub fn len(&self) -> usize
+        ensures { result ≡ length self.now }
+    {
+        self.marks.len()
+    }
+
+    pub fn is_empty(&self) -> bool
+        ensures { IsTrue result ↔ (length self.now ≡ 0) }
+    {
+        self.marks.is_empty()
+    }
+
+    /// The first marked place in cyclic order from the hand.
+    pub fn first(&self, hand: usize) -> Option<usize>
+        requires { hand < length self.now }
+        ensures first { result ≡ first_marked self.now hand }
+        ensures within { IfSome result (λ place. place < length self.now) }
+    {
+        let count = self.len();
+        match self.next(hand, count) {
+            Some(place) => Some(place),
+            None => self.next(0, hand),
+        }
     }
 
     /// The first marked place from `from` on, below `to`.
