@@ -2,7 +2,7 @@ ghost use Rattle.std.specs.Prelude.{◌≡◌, ◌<◌, ◌≤◌, length, IfOk,
 ghost use Rattle.std.specs.Borrow.{sem};
 ghost use Rattle.cmm_types.specs.declared.page.TheConstants.{PAGE};
 
-use crate::mark::Mark;
+use crate::mark::{Mark, RegionMark};
 use cmm_types::PAGE;
 use std::alloc::{AllocError, Global};
 use std::marker::Model;
@@ -58,6 +58,16 @@ impl Frame {
         self.number
     }
 
+    /// Which region it is of.
+    pub fn region(&self) -> RegionMark
+        ensures { result ≡ self.now.region }
+    {
+        RegionMark {
+            mark: self.mark.again(),
+            count: self.count,
+        }
+    }
+
     pub fn bytes(&self) -> &[u8]
         ensures bytes { result.now ≡ self.now.bytes }
         ensures whole { length result.now ≡ PAGE }
@@ -73,4 +83,8 @@ impl Frame {
     {
         self.bytes.as_mut_slice()
     }
+
+    /// Spends the frame for good: its region has no such frame again, and can't be closed. Today each frame owns its
+    /// memory, which is freed here.
+    pub fn lose(self) {}
 }

@@ -52,3 +52,18 @@ impl Mark {
         }
     }
 }
+
+/// Which region it is, for contracts alone. Contracts see it as the region's view.
+#[derive(Drop)]
+pub struct RegionMark {
+    pub(crate) mark: Mark,
+    pub(crate) count: u32,
+}
+
+impl Model for RegionMark {
+    ghost use Rattle.page_arena.specs.FrameView.{RegionView};
+
+    ghost Value = { RegionView };
+
+    ghost view = { λ r. record { name = r.mark; count = r.count } };
+}

@@ -1,0 +1,9 @@
+pub mod Sums
+pub mod Changes
+pub mod Spare
+pub mod Moves
+pub mod Scanning
+pub mod Owning
+pub mod Rounds
+pub mod Beginning
+pub mod Ending

@@ -1,0 +1,9 @@
+pub mod Totals
+pub mod PoolRule
+pub mod Plays
+pub mod Seats
+pub mod InOrOut
+pub mod FoundOut
+pub mod Lending
+pub mod Closing
+pub mod PoolLaws
