@@ -1,0 +1,11 @@
+pub mod Busy
+pub mod Kept
+pub mod Claiming
+pub mod Closing
+pub mod Opening
+pub mod Pouring
+pub mod Moving
+pub mod Looking
+pub mod Releasing
+pub mod Ruling
+pub mod Claimed

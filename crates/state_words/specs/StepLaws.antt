@@ -1,0 +1,30 @@
+-- How a caller shows what a release by a host's seat needs.
+use Rattle.std.specs.Prelude.{◌≡◌, true, false, Option, None, Some, Result, Ok, Err, is_ok, refl}
+use Rattle.std.proofs.Common.{ap, sym, subst}
+use Rattle.cmm_types.specs.declared.page.Move.{Move}
+use Rattle.cmm_types.specs.declared.page.Refused.{Refused}
+use Rattle.essa_state.specs.declared.fields.Fields.{Fields}
+use Rattle.essa_state.specs.Moves.{move_answer}
+use Rattle.essa_state.specs.PageBody.{Body, FitsWord, Makes, HostMove, actual, moved_body}
+use Rattle.essa_state.specs.PageValueLaws.{move-fits}
+use Rattle.state_words.specs.SeatView.{Hold}
+use Rattle.state_words.specs.Steps.{IsAllowedOn, ok_or, word_after, body_after, IsMovedBody}
+
+makes-ok : (word : Fields) (body : Body) (action : Move) (r : Result Fields Refused) → is_ok r ≡ true → Makes r action word body (ok_or word r) (moved_body action body)
+makes-ok word body action (Ok moved) e = (refl, refl)
+makes-ok word body action (Err why) e = absurd (let bad : false ≡ true = e in cc)
+
+-- a move that isn't refused is one of the host's
+pub moves-allowed : (word : Fields) (body : Body) (action : Move) → IsAllowedOn (Some action) word → HostMove word body action (word_after (Some action) word) (moved_body action body)
+moves-allowed word body action e = makes-ok word body action (move_answer word action) e
+
+fits-after : (word : Fields) (body : Body) (action : Option Move) → FitsWord word body → IsAllowedOn action word → FitsWord (word_after action word) (body_after action body)
+fits-after word body None fits e = fits
+fits-after word body (Some action) fits e = move-fits word body action (word_after (Some action) word) (moved_body action body) fits (moves-allowed word body action e)
+
+-- the body that the move makes of the held one will do
+pub IsMovedBody-moved : (action : Option Move) (h : Hold) (there : Body) → FitsWord h.word h.body → IsAllowedOn action h.word → there ≡ body_after action h.body → IsMovedBody action h there
+IsMovedBody-moved action h there fits allowed is = record {
+  fits = subst (λ q. FitsWord (word_after action h.word) q) (sym is) (fits-after h.word h.body action fits allowed);
+  bytes = ap (λ q. actual (word_after action h.word) q) is;
+}
