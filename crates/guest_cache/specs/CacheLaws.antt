@@ -1,16 +1,20 @@
 -- Laws of the places of tags, for the crates that keep an index of them.
-use Rattle.std.proofs.Common.{◌≡◌, ◌≢◌, ℕ, ◌+◌, ◌*◌, ◌<◌, ◌≤◌, List, length, take, sum, get_or, slice_set, slice_index_or, None, Some, refl, ap, ◌∙◌, subst, ⊎_elim, arith}
+use Rattle.std.proofs.Common.{◌≡◌, ◌≢◌, ℕ, ◌+◌, ◌*◌, ◌<◌, ◌≤◌, List, length, take, sum, get_or, slice_set, slice_index_or, Option, None, Some, refl, ap, ◌∙◌, subst, ⊎_elim, arith}
 use Rattle.std.proofs.lemmas.List.{length-set, length-replicate, get_or-set_same, get_or-set_other, get_or-replicate, take-take}
 use Rattle.std.proofs.lemmas.List.Sums.{sum_by_more, sum_by-take-le}
+use Rattle.std.proofs.lemmas.List.Quantifiers.{position-Some}
 use Rattle.std.proofs.lemmas.Bool.{cases_order}
 use Rattle.cmm_types.specs.declared.command.TheConstants.{MAX_MAPPING_PAGES}
 use Rattle.cmm_types.specs.declared.page.Tag.{Tag}
 use Rattle.cmm_types.specs.declared.page.Tag.TheVariants.{File, Anon}
-use Rattle.guest_cache.specs.CacheView.{CacheView, pages_before, IsTag, place_of, page_of, opening_cache, with_page, without_page, backing_of}
+use Rattle.guest_cache.specs.CacheView.{CacheView, pages_before, IsTag, place_of, page_of, opening_cache, with_page, without_page, holds_page, swap_slot, swap_block, assigned, unassigned, backing_of}
 
 -- every tag has its place in the index
 pub record IsCache (cache : CacheView) : Type 0 where
   pub whole : length cache.index ≡ sum cache.files + cache.slots * MAX_MAPPING_PAGES
+
+some_exact : (a b : ℕ) → Some a ≡ Some b → a ≡ b
+some_exact a b same = cc
 
 -- ---- the places of a file's pages
 
@@ -39,7 +43,7 @@ file_exact files f g i j some_f some_g within_i within_j same =
     (λ above. absurd (omega (arith, before_next files g j some_g within_j, pages_before-le files (g + 1) f (omega arith)))))
     (cases_order f g)
 
-slot_exact : (base s t i j : ℕ) → i < MAX_MAPPING_PAGES → j < MAX_MAPPING_PAGES → base + s * MAX_MAPPING_PAGES + i ≡ base + t * MAX_MAPPING_PAGES + j → (s ≡ t) × (i ≡ j)
+pub slot_exact : (base s t i j : ℕ) → i < MAX_MAPPING_PAGES → j < MAX_MAPPING_PAGES → base + s * MAX_MAPPING_PAGES + i ≡ base + t * MAX_MAPPING_PAGES + j → (s ≡ t) × (i ≡ j)
 slot_exact base s t i j within_i within_j same = (omega arith, omega arith)
 
 pub place_exact : (cache : CacheView) (t u : Tag) → IsTag cache t → IsTag cache u → place_of cache t ≡ place_of cache u → t ≡ u
@@ -121,18 +125,42 @@ backing_of-without_page cache tag (Anon slot index) = refl
 
 -- ---- a cache at opening, and the blocks of the disk
 
-pub IsCache-opening : (files : List ℕ) (slots : ℕ) → IsCache (opening_cache files slots)
-IsCache-opening files slots = record { whole = length-replicate (sum files + slots * MAX_MAPPING_PAGES) None }
+pub IsCache-opening : (files : List ℕ) (swap slots : ℕ) → IsCache (opening_cache files swap slots)
+IsCache-opening files swap slots = record { whole = length-replicate (sum files + slots * MAX_MAPPING_PAGES) None }
 
-pub page_of-opening : (files : List ℕ) (slots : ℕ) (tag : Tag) → IsTag (opening_cache files slots) tag → page_of (opening_cache files slots) tag ≡ None
-page_of-opening files slots tag is =
-    get_or-replicate (sum files + slots * MAX_MAPPING_PAGES) (place_of (opening_cache files slots) tag) None None
-    (subst (λ n. place_of (opening_cache files slots) tag < n) (length-replicate (sum files + slots * MAX_MAPPING_PAGES) None) (place_of-below (opening_cache files slots) tag (IsCache-opening files slots) is))
+pub page_of-opening : (files : List ℕ) (swap slots : ℕ) (tag : Tag) → IsTag (opening_cache files swap slots) tag → page_of (opening_cache files swap slots) tag ≡ None
+page_of-opening files swap slots tag is =
+    get_or-replicate (sum files + slots * MAX_MAPPING_PAGES) (place_of (opening_cache files swap slots) tag) None None
+    (subst (λ n. place_of (opening_cache files swap slots) tag < n) (length-replicate (sum files + slots * MAX_MAPPING_PAGES) None)
+    (place_of-below (opening_cache files swap slots) tag (IsCache-opening files swap slots) is))
 
--- each file's page has a block of its own, below the number of file pages
-pub backing_of-below : (cache : CacheView) (tag : Tag) (block : ℕ) → IsTag cache tag → backing_of cache tag ≡ Some block → block < sum cache.files
-backing_of-below cache (File file index) block is at = omega (arith, before_all cache.files file index is.0 is.1, Some_exact _ _ at)
+-- each file's page has a block of its own, below the number of file pages, and each swap slot one behind these
+pub backing_of-below : (cache : CacheView) (tag : Tag) (block : ℕ) → IsTag cache tag → backing_of cache tag ≡ Some block → block < sum cache.files + length cache.swap
+backing_of-below cache (File file index) block is at = omega (arith, before_all cache.files file index is.0 is.1, some_exact _ _ at)
+backing_of-below cache (Anon slot index) block is at = of (swap_slot cache (Anon slot index)) refl at
   where
-    Some_exact : (a b : ℕ) → Some a ≡ Some b → a ≡ b
-    Some_exact a b same = cc
-backing_of-below cache (Anon slot index) block is at = absurd (cc)
+    of : (found : Option ℕ) → swap_slot cache (Anon slot index) ≡ found → swap_block cache.files found ≡ Some block → block < sum cache.files + length cache.swap
+    of None none at = let bad : None ≡ Some block = at in absurd cc
+    of (Some number) found at = omega (arith, (position-Some (holds_page slot index) cache.swap number None found).0, some_exact _ _ at)
+
+-- ---- a cache in which a swap slot is assigned, or isn't any more
+
+pub is_tag_assigned : (cache : CacheView) (tag other : Tag) (number : Option ℕ) → IsTag cache other → IsTag (assigned cache tag number) other
+is_tag_assigned cache tag (File file index) None is = is
+is_tag_assigned cache tag (File file index) (Some number) is = is
+is_tag_assigned cache tag (Anon slot index) None is = is
+is_tag_assigned cache tag (Anon slot index) (Some number) is = is
+
+pub is_tag_unassigned : (cache : CacheView) (other : Tag) (number : Option ℕ) → IsTag cache other → IsTag (unassigned cache number) other
+is_tag_unassigned cache (File file index) None is = is
+is_tag_unassigned cache (File file index) (Some number) is = is
+is_tag_unassigned cache (Anon slot index) None is = is
+is_tag_unassigned cache (Anon slot index) (Some number) is = is
+
+pub slots_assigned : (cache : CacheView) (tag : Tag) (number : Option ℕ) → (assigned cache tag number).slots ≡ cache.slots
+slots_assigned cache tag None = refl
+slots_assigned cache tag (Some number) = refl
+
+pub slots_unassigned : (cache : CacheView) (number : Option ℕ) → (unassigned cache number).slots ≡ cache.slots
+slots_unassigned cache None = refl
+slots_unassigned cache (Some number) = refl

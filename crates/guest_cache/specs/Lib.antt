@@ -1,2 +1,3 @@
 pub mod CacheView
+pub mod SwapTable
 pub mod CacheLaws

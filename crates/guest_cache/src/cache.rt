@@ -1,13 +1,14 @@
-ghost use Rattle.std.specs.Prelude.{◌≡◌, ◌≤◌, ◌+◌, ◌<◌, length, sum, None, IfOk};
-ghost use Rattle.cmm_types.specs.declared.plan.TheConstants.{MAX_MAPPING_SLOTS, MAX_TOTAL_BLOCKS};
-ghost use Rattle.guest_cache.specs.CacheView.{IsTag, place_of, page_of, opening_cache, with_page, without_page, backing_of, pages_before};
+ghost use Rattle.std.specs.Prelude.{◌≡◌, ◌≤◌, ◌+◌, ◌<◌, ◌^◌, length, sum, replicate, None, Some, IfOk, IfSome};
+ghost use Rattle.cmm_types.specs.declared.page.Tag.TheVariants.{Anon};
+ghost use Rattle.cmm_types.specs.declared.plan.TheConstants.{MAX_MAPPING_SLOTS};
+ghost use Rattle.guest_cache.specs.CacheView.{IsTag, place_of, page_of, opening_cache, with_page, without_page, IsAnonymous, swap_slot, free_swap, assigned, unassigned, backing_of, pages_before};
 
 use cmm_types::{MAX_MAPPING_PAGES, Tag};
 use std::alloc::{AllocError, Global};
 use std::marker::Model;
 
-/// Which page has each tag of a guest's files and mapping slots, and which block of the guest's disk backs it.
-/// Every call but `open` takes the same time, whatever the number of tags.
+/// Which page has each tag of a guest's files and mapping slots, which swap slot an anonymous page has, and which block
+/// of the guest's disk backs a tag. Every call but `open` and `assign` takes the same time, whatever the number of tags.
 #[derive(Drop)]
 pub struct Cache {
     /// The pages of each file.
@@ -19,30 +20,60 @@ pub struct Cache {
     file_pages: u32,
     /// The page that has each tag, by the tag's place.
     index: Vec<Option<u32>>,
+    /// The tag that each swap slot is assigned to.
+    swap: Vec<Option<Tag>>,
+    /// The swap slot of each page of a mapping slot.
+    swapped: Vec<Option<u32>>,
+    /// Every swap slot below this one is assigned.
+    used_below: u32,
 }
 
 impl Model for Cache {
-    ghost use Rattle.std.specs.Prelude.{◌≡◌, ◌≤◌, ◌+◌, ◌*◌, sum, length, map};
+    ghost use Rattle.std.specs.Prelude.{◌≡◌, ◌<◌, ◌≤◌, ℕ, ◌+◌, ◌*◌, ◌^◌, sum, length, map, get_or, is_none, None, false};
     ghost use Rattle.std.specs.List.{range_with_len};
     ghost use Rattle.cmm_types.specs.declared.command.TheConstants.{MAX_MAPPING_PAGES};
-    ghost use Rattle.cmm_types.specs.declared.plan.TheConstants.{MAX_MAPPING_SLOTS, MAX_TOTAL_BLOCKS};
+    ghost use Rattle.cmm_types.specs.declared.plan.TheConstants.{MAX_MAPPING_SLOTS};
     ghost use Rattle.guest_cache.specs.CacheView.{CacheView, pages_before};
+    ghost use Rattle.guest_cache.specs.SwapTable.{IsTable};
 
     ghost Value = { CacheView };
 
-    ghost view = { λ c. record { files = c.files.items; slots = c.slots; index = c.index.items } };
+    ghost view = { λ c. record { files = c.files.items; slots = c.slots; index = c.index.items; swap = c.swap.items } };
 
-    ghost invariant = { λ c. (c.firsts.items ≡ map (pages_before c.files.items) (range_with_len 0 (length c.files.items))) × (c.file_pages ≡ sum c.files.items) × (c.file_pages ≤ MAX_TOTAL_BLOCKS) × (c.slots ≤ MAX_MAPPING_SLOTS) × (length c.index.items ≡ sum c.files.items + c.slots * MAX_MAPPING_PAGES) };
+    ghost invariant = { λ c. (c.firsts.items ≡ map (pages_before c.files.items) (range_with_len 0 (length c.files.items)))
+        × (c.file_pages ≡ sum c.files.items)
+        × (c.file_pages + length c.swap.items < 2 ^ 32)
+        × (c.slots ≤ MAX_MAPPING_SLOTS)
+        × (length c.index.items ≡ sum c.files.items + c.slots * MAX_MAPPING_PAGES)
+        × IsTable c.slots c.swap.items c.swapped.items
+        × (c.used_below ≤ length c.swap.items)
+        × ((number : ℕ) → number < c.used_below → is_none (get_or c.swap.items number None) ≡ false) };
+}
+
+/// A table of so many pages or swap slots, with none yet.
+fn none_yet(alloc: Global, count: usize) -> Result<Vec<Option<u32>>, AllocError>
+    ensures { IfOk result (λ table. table.items ≡ replicate count None) }
+{
+    let table = vec![in alloc; None; count]?;
+    Ok(table)
+}
+
+/// So many swap slots, each of them free.
+fn no_tags(alloc: Global, count: usize) -> Result<Vec<Option<Tag>>, AllocError>
+    ensures { IfOk result (λ table. table.items ≡ replicate count None) }
+{
+    let table = vec![in alloc; None; count]?;
+    Ok(table)
 }
 
 impl Cache {
-    /// Of files with so many pages, of `swap` swap slots and of `slots` mapping slots; no page has a tag. It takes time
-    /// and memory in proportion to the pages of the files and of the mapping slots.
+    /// Of files with so many pages, of `swap` swap slots and of `slots` mapping slots; no page has a tag, and no swap slot
+    /// is assigned. It takes time and memory in proportion to the pages of the files and of the mapping slots, and to
+    /// the swap slots.
     pub fn open(alloc: Global, files: &[u32], swap: u32, slots: u32) -> Result<Cache, AllocError>
-        requires files { sum files.now ≤ MAX_TOTAL_BLOCKS }
-        requires swap { swap ≤ MAX_TOTAL_BLOCKS }
+        requires blocks { sum files.now + swap < 2 ^ 32 }
         requires slots { slots ≤ MAX_MAPPING_SLOTS }
-        ensures { IfOk result (λ cache. cache ≡ opening_cache files.now slots) }
+        ensures { IfOk result (λ cache. cache ≡ opening_cache files.now swap slots) }
     {
         let mut firsts = Vec::with_capacity(alloc, files.len())?;
         let mut file_pages = 0;
@@ -50,13 +81,17 @@ impl Cache {
             firsts.push(file_pages)?;
             file_pages += *pages;
         }
-        let index = vec![in alloc; None; (file_pages + slots * MAX_MAPPING_PAGES) as usize]?;
+        let anonymous = (slots * MAX_MAPPING_PAGES) as usize;
+        let index = none_yet(alloc, file_pages as usize + anonymous)?;
         Ok(Cache {
             files: Vec::from_slice(alloc, files)?,
             slots,
             firsts,
             file_pages,
             index,
+            swap: no_tags(alloc, swap as usize)?,
+            swapped: none_yet(alloc, anonymous)?,
+            used_below: 0,
         })
     }
 
@@ -65,7 +100,7 @@ impl Cache {
         requires { IsTag self.now tag }
         ensures { result ≡ page_of self.now tag }
     {
-        self.index[self.place(tag) as usize]
+        self.index[self.place(tag)]
     }
 
     /// Notes that a page has a tag that no page has.
@@ -75,7 +110,7 @@ impl Cache {
         requires new { page_of self.old tag ≡ None }
         ensures { self.new ≡ with_page self.old tag page }
     {
-        let place = self.place(tag) as usize;
+        let place = self.place(tag);
         self.index[place] = Some(page);
     }
 
@@ -85,18 +120,66 @@ impl Cache {
         requires { IsTag self.old tag }
         ensures { self.new ≡ without_page self.old tag }
     {
-        let place = self.place(tag) as usize;
+        let place = self.place(tag);
         self.index[place] = None;
     }
 
-    /// The block of the guest's disk that a tag's page is read from; an anonymous page has none.
+    /// The swap slot of an anonymous page, if it has one; a file's page has none.
+    pub fn slot(&self, tag: Tag) -> Option<u32>
+        requires { IsTag self.now tag }
+        ensures { result ≡ swap_slot self.now tag }
+    {
+        match tag {
+            Tag::File { file: _, index: _ } => None,
+            Tag::Anon { slot, index } => self.swapped(slot, index),
+        }
+    }
+
+    /// Assigns the least free swap slot to an anonymous page that has none. `None` comes exactly where all swap slots are
+    /// assigned, and then nothing changes. It looks at the swap slots one after another, from one on that none below is
+    /// free.
+    pub fn assign(&mut self, tag: Tag) -> Option<u32>
+        requires tag { IsTag self.old tag }
+        requires anonymous { IsAnonymous tag }
+        requires new { swap_slot self.old tag ≡ None }
+        ensures least { result ≡ free_swap self.old }
+        ensures assigned { self.new ≡ assigned self.old tag (free_swap self.old) }
+    {
+        match tag {
+            Tag::File { file: _, index: _ } => None,
+            Tag::Anon { slot, index } => match self.least_free() {
+                None => None,
+                Some(number) => {
+                    self.set_swap(slot, index, number);
+                    Some(number)
+                }
+            },
+        }
+    }
+
+    /// Frees the swap slot of a page. Nothing changes where it has none.
+    pub fn release(&mut self, tag: Tag)
+        requires { IsTag self.old tag }
+        ensures { self.new ≡ unassigned self.old (swap_slot self.old tag) }
+    {
+        match tag {
+            Tag::File { file: _, index: _ } => {}
+            Tag::Anon { slot, index } => self.release_page(slot, index),
+        }
+    }
+
+    /// The block of the guest's disk that a tag's page is read from: a file's page has one, and an anonymous page has that
+    /// of its swap slot.
     pub fn backing(&self, tag: Tag) -> Option<u32>
         requires { IsTag self.now tag }
         ensures { result ≡ backing_of self.now tag }
     {
         match tag {
-            Tag::File { file: _, index: _ } => Some(self.place(tag)),
-            Tag::Anon { slot: _, index: _ } => None,
+            Tag::File { file, index } => Some(self.first(file) + index),
+            Tag::Anon { slot, index } => match self.swapped(slot, index) {
+                None => None,
+                Some(number) => Some(self.file_pages + number),
+            },
         }
     }
 
@@ -110,14 +193,78 @@ impl Cache {
 
     /// The place of a tag in the index.
     #[tactic(auto, using(crate::specs::CacheLaws::before_all))]
-    fn place(&self, tag: Tag) -> u32
+    fn place(&self, tag: Tag) -> usize
         requires { IsTag self.now tag }
         ensures place { result ≡ place_of self.now tag }
         ensures within { result < length self.now.index }
     {
         match tag {
-            Tag::File { file, index } => self.first(file) + index,
-            Tag::Anon { slot, index } => self.file_pages + slot * MAX_MAPPING_PAGES + index,
+            Tag::File { file, index } => self.first(file) as usize + index as usize,
+            Tag::Anon { slot, index } => {
+                self.file_pages as usize + (slot * MAX_MAPPING_PAGES + index) as usize
+            }
+        }
+    }
+
+    /// The swap slot of an anonymous page.
+    fn swapped(&self, slot: u32, index: u32) -> Option<u32>
+        requires slot { slot < self.now.slots }
+        requires index { index < MAX_MAPPING_PAGES }
+        ensures found { result ≡ swap_slot self.now (Anon slot index) }
+        ensures within { IfSome result (λ number. number < length self.now.swap) }
+    {
+        self.swapped[(slot * MAX_MAPPING_PAGES + index) as usize]
+    }
+
+    /// The least free swap slot.
+    fn least_free(&self) -> Option<u32>
+        ensures { result ≡ free_swap self.now }
+    {
+        let mut number = self.used_below;
+        while (number as usize) < self.swap.len() {
+            if self.swap[number as usize].is_none() {
+                return Some(number);
+            }
+            number += 1;
+        }
+        None
+    }
+
+    /// A swap slot that is the least free one is assigned to an anonymous page that has none.
+    fn set_swap(&mut self, slot: u32, index: u32, number: u32)
+        requires slot { slot < self.old.slots }
+        requires index { index < MAX_MAPPING_PAGES }
+        requires new { swap_slot self.old (Anon slot index) ≡ None }
+        requires least { free_swap self.old ≡ Some number }
+        ensures { self.new ≡ assigned self.old (Anon slot index) (Some number) }
+    {
+        self.swap[number as usize] = Some(Tag::Anon { slot, index });
+        self.swapped[(slot * MAX_MAPPING_PAGES + index) as usize] = Some(number);
+        self.used_below = number + 1;
+    }
+
+    /// The swap slot of an anonymous page, if it has one, is free.
+    fn release_page(&mut self, slot: u32, index: u32)
+        requires slot { slot < self.old.slots }
+        requires index { index < MAX_MAPPING_PAGES }
+        ensures { self.new ≡ unassigned self.old (swap_slot self.old (Anon slot index)) }
+    {
+        if let Some(number) = self.swapped(slot, index) {
+            self.clear_swap(slot, index, number);
+        }
+    }
+
+    /// The swap slot of an anonymous page is free.
+    fn clear_swap(&mut self, slot: u32, index: u32, number: u32)
+        requires slot { slot < self.old.slots }
+        requires index { index < MAX_MAPPING_PAGES }
+        requires its { swap_slot self.old (Anon slot index) ≡ Some number }
+        ensures { self.new ≡ unassigned self.old (Some number) }
+    {
+        self.swap[number as usize] = None;
+        self.swapped[(slot * MAX_MAPPING_PAGES + index) as usize] = None;
+        if number < self.used_below {
+            self.used_below = number;
         }
     }
 }

@@ -7,6 +7,7 @@ ghost use Rattle.guest_pages.specs.PagesView.{info_at};
 ghost use Rattle.guest_cache.specs.CacheView.{IsTag};
 ghost use Rattle.guest_maps.specs.MapsView.{IsPlace};
 ghost use Rattle.guest_rules.specs.Rows.{mapped, resolve};
+ghost use Rattle.guest_rules.specs.Answers.{HasBeenFilled, ResolveAnswer};
 
 use cmm_storage::{Busy, Storage};
 use cmm_types::Why;
@@ -30,10 +31,9 @@ fn map_entry(parts: &mut Parts, page: u32, slot: u32, index: u32, writable: bool
     parts.maps.set(slot, index, Pte { page, writable });
 }
 
-/// Sets the entry of page `index` of the mapping in a slot, so that it shows a page with that tag, which isn't
-/// locked. There was none, or none that could be stored through.
+/// The setting of the entry, as its program says.
 #[tactic(auto, using(cmm_storage::specs::Runs::runs), unfolding(guest_rules::specs::Rows::resolve))]
-pub fn resolve<St: Storage>(
+fn run_resolve<St: Storage>(
     parts: &mut Parts,
     st: &mut St,
     page: u32,
@@ -69,4 +69,29 @@ pub fn resolve<St: Storage>(
             }
         },
     }
+}
+
+/// Sets the entry of page `index` of the mapping in a slot, so that it shows a page with that tag, which isn't
+/// locked. There was none, or none that could be stored through.
+pub fn resolve<St: Storage>(
+    parts: &mut Parts,
+    st: &mut St,
+    page: u32,
+    slot: u32,
+    index: u32,
+    writable: bool,
+) -> Resolved
+    requires page { page < length parts.old.pages.infos }
+    requires pages { page < (St.view st.old).pages }
+    requires not_free { Contains parts.old.pages.free page → ⊥ }
+    requires tag { IfSome (info_at parts.old.pages page).tag (λ tag. IsTag parts.old.cache tag) }
+    requires shown { page < parts.old.maps.pages }
+    requires writers { (info_at parts.old.pages page).writers ≤ MAX_MAPPING_SLOTS * MAX_MAPPING_PAGES }
+    requires place { IsPlace parts.old.maps slot index }
+    requires none_held { (St.view st.old).held ≡ None }
+    ensures row { DoesAlone St.step (resolve parts.old page slot index writable) st.old (parts.new, result) st.new }
+    ensures none_held { (St.view st.new).held ≡ None }
+    ensures answer { HasBeenFilled parts.old page (St.view st.old) → ResolveAnswer parts.old page slot index writable (St.view st.old) parts.new result (St.view st.new) }
+{
+    run_resolve(parts, st, page, slot, index, writable)
 }

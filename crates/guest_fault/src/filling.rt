@@ -5,6 +5,7 @@ ghost use Rattle.cmm_storage.specs.Program.{Does, DoesAlone};
 ghost use Rattle.guest_pages.specs.PagesView.{info_at};
 ghost use Rattle.guest_cache.specs.CacheView.{IsTag};
 ghost use Rattle.guest_rules.specs.Rows.{backing_at, give_up, fill_touched, fill_with, fill_from, fill};
+ghost use Rattle.guest_rules.specs.Answers.{IsToBeFilled, FillAnswer};
 
 use cmm_io::Disk;
 use cmm_storage::{Busy, Storage, Trap};
@@ -104,10 +105,9 @@ fn fill_from<St: Storage, D: Disk>(
     }
 }
 
-/// Fills a locked page with the bytes of its tag, from the guest's disk or with zeros. Where it fails, the page is
-/// free again.
+/// The filling, as its program says.
 #[tactic(auto, using(cmm_storage::specs::Runs::runs, guest_hint::specs::RunLaws::does_alone), unfolding(guest_rules::specs::Rows::fill))]
-pub fn fill<St: Storage, D: Disk>(parts: &mut Parts, st: &mut St, disk: &mut D, page: u32) -> Filled
+fn run_fill<St: Storage, D: Disk>(parts: &mut Parts, st: &mut St, disk: &mut D, page: u32) -> Filled
     requires page { page < length parts.old.pages.infos }
     requires pages { page < (St.view st.old).pages }
     requires not_free { Contains parts.old.pages.free page → ⊥ }
@@ -133,4 +133,21 @@ pub fn fill<St: Storage, D: Disk>(parts: &mut Parts, st: &mut St, disk: &mut D, 
             }
         }
     }
+}
+
+/// Fills a locked page with the bytes of its tag, from the guest's disk or with zeros. Where it fails, the page is
+/// free again.
+pub fn fill<St: Storage, D: Disk>(parts: &mut Parts, st: &mut St, disk: &mut D, page: u32) -> Filled
+    requires page { page < length parts.old.pages.infos }
+    requires pages { page < (St.view st.old).pages }
+    requires not_free { Contains parts.old.pages.free page → ⊥ }
+    requires tag { IfSome (info_at parts.old.pages page).tag (λ tag. IsTag parts.old.cache tag) }
+    requires shown { page < parts.old.maps.pages }
+    requires block { IfSome (backing_at parts.old page) (λ block. block < (D.view disk.old).count) }
+    requires none_held { (St.view st.old).held ≡ None }
+    ensures row { Does St.step D.step (fill parts.old page) st.old disk.old (parts.new, result) st.new disk.new }
+    ensures none_held { (St.view st.new).held ≡ None }
+    ensures answer { IsToBeFilled parts.old page (St.view st.old) (D.view disk.old) → FillAnswer parts.old page (St.view st.old) (D.view disk.old) parts.new result (St.view st.new) (D.view disk.new) }
+{
+    run_fill(parts, st, disk, page)
 }

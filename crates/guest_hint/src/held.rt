@@ -5,6 +5,7 @@ ghost use Rattle.guest_pages.specs.PagesView.{info_at};
 ghost use Rattle.guest_cache.specs.CacheView.{IsTag};
 ghost use Rattle.guest_rules.specs.Hint.{hint};
 ghost use Rattle.guest_rules.specs.Rows.{freed, handler, tell, rehint, make_stable};
+ghost use Rattle.guest_rules.specs.Answers.{IsFree, IsHandled, CanBeTold, IsRetold, StableAnswer};
 
 use crate::hint::hint_of;
 use cmm_storage::Storage;
@@ -12,9 +13,9 @@ use cmm_types::Usage;
 use essa_state::Order;
 use guest_rules::{Gone, Parts};
 
-/// Takes everything off a page, which is the next free one then.
+/// Takes everything off a page, as the rules say.
 #[tactic(auto, unfolding(guest_rules::specs::Rows::freed))]
-pub fn forget(parts: &mut Parts, page: u32)
+fn run_forget(parts: &mut Parts, page: u32)
     requires page { page < length parts.old.pages.infos }
     requires not_free { Contains parts.old.pages.free page → ⊥ }
     requires tag { IfSome (info_at parts.old.pages page).tag (λ tag. IsTag parts.old.cache tag) }
@@ -29,10 +30,22 @@ pub fn forget(parts: &mut Parts, page: u32)
     parts.maps.clear_page(page);
 }
 
-/// The handler of a held page that was discarded: the page is free, and the host is told that it is unused. One
-/// fault is counted.
+/// Takes everything off a page, which is the next free one then.
+pub fn forget(parts: &mut Parts, page: u32)
+    requires page { page < length parts.old.pages.infos }
+    requires not_free { Contains parts.old.pages.free page → ⊥ }
+    requires tag { IfSome (info_at parts.old.pages page).tag (λ tag. IsTag parts.old.cache tag) }
+    requires shown { page < parts.old.maps.pages }
+    ensures row { parts.new ≡ freed parts.old page }
+    ensures free { IsFree parts.new page }
+    ensures faults { parts.new.faults ≡ parts.old.faults }
+{
+    run_forget(parts, page);
+}
+
+/// The handler, as its program says.
 #[tactic(auto, unfolding(guest_rules::specs::Rows::handler, guest_rules::specs::Rows::handled))]
-pub fn discard_handler<St: Storage>(parts: &mut Parts, st: &mut St, page: u32)
+fn run_discard_handler<St: Storage>(parts: &mut Parts, st: &mut St, page: u32)
     requires page { page < length parts.old.pages.infos }
     requires not_free { Contains parts.old.pages.free page → ⊥ }
     requires tag { IfSome (info_at parts.old.pages page).tag (λ tag. IsTag parts.old.cache tag) }
@@ -44,6 +57,21 @@ pub fn discard_handler<St: Storage>(parts: &mut Parts, st: &mut St, page: u32)
     st.order(page, Order::SetUnused);
     forget(parts, page);
     parts.faults = parts.faults.saturating_add(1);
+}
+
+/// The handler of a held page that was discarded: the page is free, and the host is told that it is unused. One
+/// fault is counted.
+pub fn discard_handler<St: Storage>(parts: &mut Parts, st: &mut St, page: u32)
+    requires page { page < length parts.old.pages.infos }
+    requires not_free { Contains parts.old.pages.free page → ⊥ }
+    requires tag { IfSome (info_at parts.old.pages page).tag (λ tag. IsTag parts.old.cache tag) }
+    requires shown { page < parts.old.maps.pages }
+    requires held { (St.view st.old).held ≡ Some page }
+    ensures row { DoesAlone St.step (handler parts.old page) st.old parts.new st.new }
+    ensures held { (St.view st.new).held ≡ Some page }
+    ensures answer { IsHandled parts.old page parts.new (St.view st.new) }
+{
+    run_discard_handler(parts, st, page);
 }
 
 /// Tells the host the hint of a held page.
@@ -65,10 +93,9 @@ fn tell<St: Storage>(parts: &Parts, st: &mut St, page: u32)
     }
 }
 
-/// Moves the change bit of a held stable page with a tag into what is known of the page, and tells the host its
-/// hint.
+/// The hint, as its program says.
 #[tactic(auto, using(cmm_storage::specs::Runs::runs), unfolding(guest_rules::specs::Rows::rehint))]
-pub fn rehint<St: Storage>(parts: &mut Parts, st: &mut St, page: u32)
+fn run_rehint<St: Storage>(parts: &mut Parts, st: &mut St, page: u32)
     requires page { page < length parts.old.pages.infos }
     requires held { (St.view st.old).held ≡ Some page }
     ensures row { DoesAlone St.step (rehint parts.old page) st.old parts.new st.new }
@@ -82,9 +109,21 @@ pub fn rehint<St: Storage>(parts: &mut Parts, st: &mut St, page: u32)
     }
 }
 
-/// Makes a held page stable. A page that was discarded goes through its handler; `Gone` comes exactly there.
+/// Moves the change bit of a held stable page with a tag into what is known of the page, and tells the host its
+/// hint.
+pub fn rehint<St: Storage>(parts: &mut Parts, st: &mut St, page: u32)
+    requires page { page < length parts.old.pages.infos }
+    requires held { (St.view st.old).held ≡ Some page }
+    ensures row { DoesAlone St.step (rehint parts.old page) st.old parts.new st.new }
+    ensures held { (St.view st.new).held ≡ Some page }
+    ensures answer { CanBeTold parts.old page (St.view st.old) → IsRetold parts.old page (St.view st.old) parts.new (St.view st.new) }
+{
+    run_rehint(parts, st, page);
+}
+
+/// The order, as its program says.
 #[tactic(auto, using(cmm_storage::specs::Runs::runs), unfolding(guest_rules::specs::Rows::make_stable))]
-pub fn make_stable<St: Storage>(parts: &mut Parts, st: &mut St, page: u32) -> Result<(), Gone>
+fn run_make_stable<St: Storage>(parts: &mut Parts, st: &mut St, page: u32) -> Result<(), Gone>
     requires page { page < length parts.old.pages.infos }
     requires not_free { Contains parts.old.pages.free page → ⊥ }
     requires tag { IfSome (info_at parts.old.pages page).tag (λ tag. IsTag parts.old.cache tag) }
@@ -101,4 +140,20 @@ pub fn make_stable<St: Storage>(parts: &mut Parts, st: &mut St, page: u32) -> Re
         discard_handler(parts, st, page);
         Err(Gone)
     }
+}
+
+/// Makes a held page stable. A page that was discarded goes through its handler; `Gone` comes exactly there.
+pub fn make_stable<St: Storage>(parts: &mut Parts, st: &mut St, page: u32) -> Result<(), Gone>
+    requires page { page < length parts.old.pages.infos }
+    requires not_free { Contains parts.old.pages.free page → ⊥ }
+    requires tag { IfSome (info_at parts.old.pages page).tag (λ tag. IsTag parts.old.cache tag) }
+    requires shown { page < parts.old.maps.pages }
+    requires held { (St.view st.old).held ≡ Some page }
+    ensures row { DoesAlone St.step (make_stable parts.old page) st.old (parts.new, result) st.new }
+    ensures held { (St.view st.new).held ≡ Some page }
+    ensures stable { OnOk result (((St.view st.new).values page).usage ≡ S) }
+    ensures same { OnOk result (parts.new ≡ parts.old) }
+    ensures answer { StableAnswer parts.old page (St.view st.old) parts.new result (St.view st.new) }
+{
+    run_make_stable(parts, st, page)
 }

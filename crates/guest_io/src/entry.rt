@@ -8,6 +8,7 @@ ghost use Rattle.cmm_storage.specs.Program.{DoesAlone};
 ghost use Rattle.guest_pages.specs.PagesView.{info_at};
 ghost use Rattle.guest_cache.specs.CacheView.{IsTag};
 ghost use Rattle.guest_rules.specs.Rows.{touch_missed, load_page, store_through};
+ghost use Rattle.guest_rules.specs.Answers.{HasBeenFilled, LoadAnswer, StoreAnswer};
 
 use crate::read::fetch;
 use cmm_storage::{Busy, Storage, Trap};
@@ -45,9 +46,9 @@ fn miss<R, St: Storage>(parts: &mut Parts, st: &mut St, page: u32, trap: Trap) -
     }
 }
 
-/// Loads up to 64 bytes through an entry that shows the page, from `off` on. All of them lie in the page.
+/// The load, as its program says.
 #[tactic(auto, using(cmm_storage::specs::Runs::runs), unfolding(guest_rules::specs::Rows::load_page))]
-pub fn load_page<St: Storage>(
+fn run_load_page<St: Storage>(
     parts: &mut Parts,
     st: &mut St,
     page: u32,
@@ -81,10 +82,33 @@ pub fn load_page<St: Storage>(
     }
 }
 
-/// Stores up to 64 bytes through a writable entry that shows the page, from `off` on. All of them lie in the page,
-/// whose change bit is set then.
+/// Loads up to 64 bytes through an entry that shows the page, from `off` on. All of them lie in the page.
+pub fn load_page<St: Storage>(
+    parts: &mut Parts,
+    st: &mut St,
+    page: u32,
+    off: u32,
+    len: u32,
+) -> Result<Bytes64, Missed>
+    requires page { page < length parts.old.pages.infos }
+    requires pages { page < (St.view st.old).pages }
+    requires not_free { Contains parts.old.pages.free page → ⊥ }
+    requires tag { IfSome (info_at parts.old.pages page).tag (λ tag. IsTag parts.old.cache tag) }
+    requires shown { page < parts.old.maps.pages }
+    requires used { is_unused ((St.view st.old).values page).usage ≡ false }
+    requires none_held { (St.view st.old).held ≡ None }
+    requires few { len ≤ MAX_BYTES }
+    requires within { off + len ≤ PAGE }
+    ensures row { DoesAlone St.step (load_page parts.old page off len) st.old (parts.new, result) st.new }
+    ensures none_held { (St.view st.new).held ≡ None }
+    ensures answer { HasBeenFilled parts.old page (St.view st.old) → LoadAnswer parts.old page off len (St.view st.old) parts.new result (St.view st.new) }
+{
+    run_load_page(parts, st, page, off, len)
+}
+
+/// The store, as its program says.
 #[tactic(auto, using(cmm_storage::specs::Runs::runs), unfolding(guest_rules::specs::Rows::store_through))]
-pub fn store_through<St: Storage>(
+fn run_store_through<St: Storage>(
     parts: &mut Parts,
     st: &mut St,
     page: u32,
@@ -115,4 +139,28 @@ pub fn store_through<St: Storage>(
             }
         },
     }
+}
+
+/// Stores up to 64 bytes through a writable entry that shows the page, from `off` on. All of them lie in the page,
+/// whose change bit is set then.
+pub fn store_through<St: Storage>(
+    parts: &mut Parts,
+    st: &mut St,
+    page: u32,
+    off: u32,
+    bytes: &Bytes64,
+) -> Result<(), Missed>
+    requires page { page < length parts.old.pages.infos }
+    requires pages { page < (St.view st.old).pages }
+    requires not_free { Contains parts.old.pages.free page → ⊥ }
+    requires tag { IfSome (info_at parts.old.pages page).tag (λ tag. IsTag parts.old.cache tag) }
+    requires shown { page < parts.old.maps.pages }
+    requires writable { can_store ((St.view st.old).values page).usage ≡ true }
+    requires none_held { (St.view st.old).held ≡ None }
+    requires within { off + length bytes.now ≤ PAGE }
+    ensures row { DoesAlone St.step (store_through parts.old page off bytes.now) st.old (parts.new, result) st.new }
+    ensures none_held { (St.view st.new).held ≡ None }
+    ensures answer { HasBeenFilled parts.old page (St.view st.old) → StoreAnswer parts.old page off bytes.now (St.view st.old) parts.new result (St.view st.new) }
+{
+    run_store_through(parts, st, page, off, bytes)
 }

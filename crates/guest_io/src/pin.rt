@@ -7,6 +7,7 @@ ghost use Rattle.guest_pages.specs.PagesView.{info_at};
 ghost use Rattle.guest_cache.specs.CacheView.{IsTag};
 ghost use Rattle.guest_maps.specs.MapsView.{IsPlace};
 ghost use Rattle.guest_rules.specs.Rows.{pins_after, pinned, pin_page};
+ghost use Rattle.guest_rules.specs.Answers.{HasBeenFilled, PinAnswer};
 
 use cmm_storage::{Busy, Storage};
 use cmm_types::Why;
@@ -37,10 +38,9 @@ fn set_pin(parts: &mut Parts, page: u32, slot: u32, index: u32, pins: bool)
     parts.maps.set_pinned(slot, index, pins);
 }
 
-/// Pins page `index` of the mapping in a slot, or unpins it where `pins` is false. Its tag is on the page, which
-/// isn't locked. Nothing of the page is touched or read, so this never fails.
+/// The pin, as its program says.
 #[tactic(auto, using(cmm_storage::specs::Runs::runs), unfolding(guest_rules::specs::Rows::pin_page))]
-pub fn pin_page<St: Storage>(
+fn run_pin_page<St: Storage>(
     parts: &mut Parts,
     st: &mut St,
     page: u32,
@@ -77,4 +77,30 @@ pub fn pin_page<St: Storage>(
             }
         },
     }
+}
+
+/// Pins page `index` of the mapping in a slot, or unpins it where `pins` is false. Its tag is on the page, which
+/// isn't locked. Nothing of the page is touched or read, so this never fails.
+pub fn pin_page<St: Storage>(
+    parts: &mut Parts,
+    st: &mut St,
+    page: u32,
+    slot: u32,
+    index: u32,
+    pins: bool,
+) -> Result<(), Missed>
+    requires page { page < length parts.old.pages.infos }
+    requires pages { page < (St.view st.old).pages }
+    requires not_free { Contains parts.old.pages.free page → ⊥ }
+    requires tag { IfSome (info_at parts.old.pages page).tag (λ tag. IsTag parts.old.cache tag) }
+    requires shown { page < parts.old.maps.pages }
+    requires most { (info_at parts.old.pages page).pins ≤ MAX_MAPPING_SLOTS * MAX_MAPPING_PAGES }
+    requires some { pins ≡ false → 1 ≤ (info_at parts.old.pages page).pins }
+    requires place { IsPlace parts.old.maps slot index }
+    requires none_held { (St.view st.old).held ≡ None }
+    ensures row { DoesAlone St.step (pin_page parts.old page slot index pins) st.old (parts.new, result) st.new }
+    ensures none_held { (St.view st.new).held ≡ None }
+    ensures answer { HasBeenFilled parts.old page (St.view st.old) → PinAnswer parts.old page slot index pins (St.view st.old) parts.new result (St.view st.new) }
+{
+    run_pin_page(parts, st, page, slot, index, pins)
 }

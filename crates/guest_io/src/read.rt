@@ -6,6 +6,7 @@ ghost use Rattle.cmm_storage.specs.Program.{DoesAlone};
 ghost use Rattle.guest_pages.specs.PagesView.{info_at};
 ghost use Rattle.guest_cache.specs.CacheView.{IsTag};
 ghost use Rattle.guest_rules.specs.Rows.{missed_by, read_page};
+ghost use Rattle.guest_rules.specs.Answers.{HasBeenFilled, ReadAnswer};
 
 use cmm_storage::{Busy, Storage, Trap};
 use cmm_types::{Bytes64, Cause, MAX_BYTES, Why};
@@ -40,9 +41,9 @@ pub(crate) fn fetch<St: Storage>(st: &mut St, page: u32, off: u32, len: u32) -> 
     Bytes64::from_slice(into).unwrap()
 }
 
-/// Reads up to 64 bytes of a page that has a tag and isn't locked, from `off` on. All of them lie in the page.
+/// The read, as its program says.
 #[tactic(auto, using(cmm_storage::specs::Runs::runs), unfolding(guest_rules::specs::Rows::read_page))]
-pub fn read_page<St: Storage>(
+fn run_read_page<St: Storage>(
     parts: &mut Parts,
     st: &mut St,
     page: u32,
@@ -84,4 +85,27 @@ pub fn read_page<St: Storage>(
             },
         },
     }
+}
+
+/// Reads up to 64 bytes of a page that has a tag and isn't locked, from `off` on. All of them lie in the page.
+pub fn read_page<St: Storage>(
+    parts: &mut Parts,
+    st: &mut St,
+    page: u32,
+    off: u32,
+    len: u32,
+) -> Result<Bytes64, Missed>
+    requires page { page < length parts.old.pages.infos }
+    requires pages { page < (St.view st.old).pages }
+    requires not_free { Contains parts.old.pages.free page → ⊥ }
+    requires tag { IfSome (info_at parts.old.pages page).tag (λ tag. IsTag parts.old.cache tag) }
+    requires shown { page < parts.old.maps.pages }
+    requires none_held { (St.view st.old).held ≡ None }
+    requires few { len ≤ MAX_BYTES }
+    requires within { off + len ≤ PAGE }
+    ensures row { DoesAlone St.step (read_page parts.old page off len) st.old (parts.new, result) st.new }
+    ensures none_held { (St.view st.new).held ≡ None }
+    ensures answer { HasBeenFilled parts.old page (St.view st.old) → ReadAnswer parts.old page off len (St.view st.old) parts.new result (St.view st.new) }
+{
+    run_read_page(parts, st, page, off, len)
 }

@@ -7,6 +7,7 @@ ghost use Rattle.guest_pages.specs.PagesView.{info_at};
 ghost use Rattle.guest_cache.specs.CacheView.{IsTag};
 ghost use Rattle.guest_rules.specs.Rows.{backing_at};
 ghost use Rattle.guest_rules.specs.Syncs.{sync_known, sync_page, stay_dirty, back_written, back_fetched, back_touched, write_back};
+ghost use Rattle.guest_rules.specs.Answers.{HasBeenFilled, IsToBeWritten, SyncAnswer, BackAnswer};
 
 use cmm_io::Disk;
 use cmm_storage::{Busy, Storage, Trap};
@@ -34,9 +35,9 @@ fn lock_dirty<St: Storage>(parts: &mut Parts, st: &mut St, cpu: u32, page: u32) 
     }
 }
 
-/// Looks at a page with a tag for a sync of its file by a processor: a dirty page is locked, to be written back.
+/// The look, as its program says.
 #[tactic(auto, using(cmm_storage::specs::Runs::runs), unfolding(guest_rules::specs::Syncs::sync_page))]
-pub fn sync_page<St: Storage>(parts: &mut Parts, st: &mut St, cpu: u32, page: u32) -> Synced
+fn run_sync_page<St: Storage>(parts: &mut Parts, st: &mut St, cpu: u32, page: u32) -> Synced
     requires page { page < length parts.old.pages.infos }
     requires pages { page < (St.view st.old).pages }
     requires not_free { Contains parts.old.pages.free page → ⊥ }
@@ -68,6 +69,21 @@ pub fn sync_page<St: Storage>(parts: &mut Parts, st: &mut St, cpu: u32, page: u3
             }
         },
     }
+}
+
+/// Looks at a page with a tag for a sync of its file by a processor: a dirty page is locked, to be written back.
+pub fn sync_page<St: Storage>(parts: &mut Parts, st: &mut St, cpu: u32, page: u32) -> Synced
+    requires page { page < length parts.old.pages.infos }
+    requires pages { page < (St.view st.old).pages }
+    requires not_free { Contains parts.old.pages.free page → ⊥ }
+    requires tag { IfSome (info_at parts.old.pages page).tag (λ tag. IsTag parts.old.cache tag) }
+    requires shown { page < parts.old.maps.pages }
+    requires none_held { (St.view st.old).held ≡ None }
+    ensures row { DoesAlone St.step (sync_page parts.old page cpu) st.old (parts.new, result) st.new }
+    ensures none_held { (St.view st.new).held ≡ None }
+    ensures answer { HasBeenFilled parts.old page (St.view st.old) → SyncAnswer parts.old page cpu (St.view st.old) parts.new result (St.view st.new) }
+{
+    run_sync_page(parts, st, cpu, page)
 }
 
 /// The held page, which is locked, couldn't be written back: it stays dirty, and is unlocked and given back.
@@ -146,10 +162,9 @@ fn write_to<St: Storage, D: Disk>(
     }
 }
 
-/// Writes a locked page to the block of its tag. Where it fails, the page stays dirty. Either way it isn't locked
-/// any more, unless the turn has to be taken again.
+/// The writing back, as its program says.
 #[tactic(auto, using(cmm_storage::specs::Runs::runs, guest_hint::specs::RunLaws::does_alone), unfolding(guest_rules::specs::Syncs::write_back))]
-pub fn write_back<St: Storage, D: Disk>(
+fn run_write_back<St: Storage, D: Disk>(
     parts: &mut Parts,
     st: &mut St,
     disk: &mut D,
@@ -178,4 +193,25 @@ pub fn write_back<St: Storage, D: Disk>(
             }
         },
     }
+}
+
+/// Writes a locked page to the block of its tag. Where it fails, the page stays dirty. Either way it isn't locked
+/// any more, unless the turn has to be taken again.
+pub fn write_back<St: Storage, D: Disk>(
+    parts: &mut Parts,
+    st: &mut St,
+    disk: &mut D,
+    page: u32,
+) -> Filled
+    requires page { page < length parts.old.pages.infos }
+    requires pages { page < (St.view st.old).pages }
+    requires tag { IfSome (info_at parts.old.pages page).tag (λ tag. IsTag parts.old.cache tag) }
+    requires block { IfSome (backing_at parts.old page) (λ block. block < (D.view disk.old).count) }
+    requires used { is_unused ((St.view st.old).values page).usage ≡ false }
+    requires none_held { (St.view st.old).held ≡ None }
+    ensures row { Does St.step D.step (write_back parts.old page) st.old disk.old (parts.new, result) st.new disk.new }
+    ensures none_held { (St.view st.new).held ≡ None }
+    ensures answer { IsToBeWritten parts.old page (St.view st.old) → BackAnswer parts.old page (St.view st.old) (D.view disk.old) parts.new result (St.view st.new) (D.view disk.new) }
+{
+    run_write_back(parts, st, disk, page)
 }

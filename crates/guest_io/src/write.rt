@@ -5,6 +5,7 @@ ghost use Rattle.cmm_storage.specs.Program.{DoesAlone};
 ghost use Rattle.guest_pages.specs.PagesView.{info_at};
 ghost use Rattle.guest_cache.specs.CacheView.{IsTag};
 ghost use Rattle.guest_rules.specs.Rows.{write_page};
+ghost use Rattle.guest_rules.specs.Answers.{HasBeenFilled, WriteAnswer};
 
 use crate::read::missed_by;
 use cmm_storage::{Busy, Storage};
@@ -12,10 +13,9 @@ use cmm_types::{Bytes64, Why};
 use guest_hint::{make_stable, rehint};
 use guest_rules::{Missed, Parts};
 
-/// Writes up to 64 bytes to a page that has a tag and isn't locked, from `off` on. All of them lie in the page, which
-/// is dirty then, and stays stable.
+/// The write, as its program says.
 #[tactic(auto, using(cmm_storage::specs::Runs::runs), unfolding(guest_rules::specs::Rows::write_page))]
-pub fn write_page<St: Storage>(
+fn run_write_page<St: Storage>(
     parts: &mut Parts,
     st: &mut St,
     page: u32,
@@ -57,4 +57,27 @@ pub fn write_page<St: Storage>(
             },
         },
     }
+}
+
+/// Writes up to 64 bytes to a page that has a tag and isn't locked, from `off` on. All of them lie in the page, which
+/// is dirty then, and stays stable.
+pub fn write_page<St: Storage>(
+    parts: &mut Parts,
+    st: &mut St,
+    page: u32,
+    off: u32,
+    from: &Bytes64,
+) -> Result<(), Missed>
+    requires page { page < length parts.old.pages.infos }
+    requires pages { page < (St.view st.old).pages }
+    requires not_free { Contains parts.old.pages.free page → ⊥ }
+    requires tag { IfSome (info_at parts.old.pages page).tag (λ tag. IsTag parts.old.cache tag) }
+    requires shown { page < parts.old.maps.pages }
+    requires none_held { (St.view st.old).held ≡ None }
+    requires within { off + length from.now ≤ PAGE }
+    ensures row { DoesAlone St.step (write_page parts.old page off from.now) st.old (parts.new, result) st.new }
+    ensures none_held { (St.view st.new).held ≡ None }
+    ensures answer { HasBeenFilled parts.old page (St.view st.old) → WriteAnswer parts.old page off from.now (St.view st.old) parts.new result (St.view st.new) }
+{
+    run_write_page(parts, st, page, off, from)
 }

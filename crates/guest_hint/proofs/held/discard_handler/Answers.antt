@@ -1,22 +1,8 @@
-use Rattle.std.proofs.Common.{◌≡◌, ap, refl, ◌∙◌}
-use Rattle.cmm_io.specs.Faults.{raised}
-use Rattle.guest_rules.specs.declared.parts.Parts.{Parts}
-use Rattle.guest_rules.specs.Rows.{freed, handled, handler}
+use Rattle.guest_rules.specs.Rows.{handler}
+use Rattle.guest_rules.proofs.Rows.AnswerLaws.{any_disk, seen_alone, handler-says}
 use Rattle.guest_hint.proofs.held.discard_handler.Goals as goal
 
-pub returns-clause-row : goal.returns-clause-row
-unfolding handler handled freed
-returns-clause-row g c =
-    let counted : c.saturating_add-parts.result ≡ raised c.args.parts.now.faults =
-    c.saturating_add-parts.ensures ∙ ap (λ (parts : Parts). raised parts.faults) c.forget.ensures
-    in (
-      _,
-      _,
-      c.order.ensures.step,
-      (
-        ap (λ (parts : Parts). record parts { faults = c.saturating_add-parts.result }) c.forget.ensures
-            ∙ ap (λ faults. record (freed c.args.parts.now c.args.page) { faults = faults }) counted,
-        refl,
-        refl,
-      ),
-    )
+pub returns-clause-answer : goal.returns-clause-answer
+returns-clause-answer g c =
+    handler-says c.args.parts.now c.args.page _ any_disk c.run_discard_handler.new.parts _ any_disk c.requires.page
+    (seen_alone g.St.Storage.step g.St.Storage.view g.met.St.Storage.meets (handler c.args.parts.now c.args.page) c.args.st.now c.run_discard_handler.new.parts c.run_discard_handler.new.st c.run_discard_handler.ensures.row)
