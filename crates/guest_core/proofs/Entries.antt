@@ -17,11 +17,11 @@ use Rattle.guest_maps.specs.MapsView.{entry_at}
 use Rattle.guest_rules.specs.Hint.{can_be_fetched_again, hint}
 use Rattle.guest_rules.specs.GuestState.{GuestState}
 use Rattle.guest_rules.specs.Fit.{Fit}
-use Rattle.guest_rules.proofs.TurnCases.{ShowsPage, Maps}
-use Rattle.guest_rules.proofs.ValueLaws.{hint-tagged}
-use Rattle.guest_rules.proofs.EntryLaws.{some_writer}
-use Rattle.guest_rules.proofs.Reached.{entry_page}
-use Rattle.guest_rules.proofs.ReadyCalls.{CanBeUsed, entry-usable}
+use Rattle.guest_rules.proofs.Cases.TurnCases.{ShowsPage, Maps}
+use Rattle.guest_rules.proofs.Rows.ValueLaws.{hint-tagged}
+use Rattle.guest_rules.proofs.Kept.EntryLaws.{some_writer}
+use Rattle.guest_rules.proofs.Cases.Reached.{entry_page}
+use Rattle.guest_rules.proofs.Ready.ReadyCalls.{CanBeUsed, entry-usable}
 use Rattle.guest_core.specs.Between.{Hits}
 
 pub hit-usable : (g : GuestState) (v : StorageView) (d : DiskView) (cpu : ℕ) (op : Op) (page : ℕ) → Fit g v d → Hits g cpu op page → CanBeUsed g v page

@@ -11,7 +11,7 @@ use Rattle.guest_cache.specs.CacheView.{page_of}
 use Rattle.guest_rules.specs.declared.processor.Phase.TheVariants.{Sync as AtSync, SyncWrite}
 use Rattle.guest_rules.specs.GuestState.{GuestState, processor_at}
 use Rattle.guest_rules.specs.Fit.{Fit, IsSyncing}
-use Rattle.guest_rules.proofs.ReadyCalls.{CanBeUsed, found-usable, file-few, syncing-tag, writing-stable}
+use Rattle.guest_rules.proofs.Ready.ReadyCalls.{CanBeUsed, found-usable, file-few, syncing-tag, writing-stable}
 
 -- the page that has the tag of the page that a sync is at
 pub sync-usable : (g : GuestState) (v : StorageView) (d : DiskView) (cpu file index page : ℕ) → Fit g v d → IsSyncing g cpu file index → page_of g.parts.cache (File file index) ≡ Some page → CanBeUsed g v page

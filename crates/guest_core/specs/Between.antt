@@ -11,7 +11,7 @@ use Rattle.guest_maps.specs.declared.slot.Spot.{Spot}
 use Rattle.guest_maps.specs.MapsView.{entry_at}
 use Rattle.guest_rules.specs.GuestState.{GuestState}
 use Rattle.guest_rules.specs.Fit.{Fit}
-use Rattle.guest_rules.proofs.Reached.{Reaches}
+use Rattle.guest_rules.proofs.Cases.Reached.{Reaches}
 
 -- fit beside some disk, for the turns that reach none
 abbrev pub IsFit : GuestState → StorageView → Type 0

@@ -2,14 +2,18 @@ ghost use Rattle.std.specs.Prelude.{◌≡◌, ◌≤◌, ◌<◌, ◌+◌, ◌/
 ghost use Rattle.cmm_types.specs.declared.plan.TheConstants.{MAX_MAPPING_SLOTS};
 ghost use Rattle.cmm_types.specs.InRange.{GuestInRange};
 ghost use Rattle.cmm_flat.specs.Legal.{command_of, process_of};
+ghost use Rattle.cmm_io.specs.DiskView.{DiskView};
+ghost use Rattle.cmm_storage.specs.StorageView.{StorageView};
 ghost use Rattle.cmm_storage.specs.Program.{done, Does};
 ghost use Rattle.guest_pages.specs.PagesView.{info_at};
 ghost use Rattle.guest_rules.specs.declared.processor.Phase.TheVariants.{Start, Fill};
 ghost use Rattle.guest_rules.specs.GuestState.{opening_guest, processor_at, with_phase, entered};
 ghost use Rattle.guest_rules.specs.Turns.{turn};
 ghost use Rattle.guest_rules.specs.Built.{GuestIsBuilt};
+ghost use Rattle.guest_rules.specs.Fresh.{AreFresh};
 ghost use Rattle.guest_rules.specs.Fit.{Fit, all_commands};
 ghost use Rattle.guest_rules.specs.Cause.{TurnCause, AloneCause, NoWrongDiscard};
+ghost use Rattle.guest_rules.specs.Again.{WhyAgain};
 ghost use Rattle.guest_rules.specs.Alone.{alone};
 
 mod look;
@@ -59,7 +63,8 @@ impl Guest {
     pub fn open(alloc: Global, plan: &GuestPlan) -> Result<Guest, AllocError>
         requires range { GuestInRange plan.now }
         requires built { GuestIsBuilt plan.now }
-        ensures { IfOk result (λ guest. guest ≡ opening_guest plan.now) }
+        ensures opening { IfOk result (λ guest. guest ≡ opening_guest plan.now) }
+        ensures fit { IfOk result (λ guest. (v : StorageView) (d : DiskView) → AreFresh plan.now v d → Fit guest v d) }
     {
         let files = pages_of_files(alloc, plan.files.as_slice())?;
         let parts = Parts {
@@ -196,6 +201,8 @@ impl Guest {
 
         // The turn is the program of calls, each by the step relation of the storage or of the disk.
         ensures row { Does St.step D.step (turn self.old cpu) st.old disk.old (self.new, result) st.new disk.new }
+        // An answer `Again` is that of the take that found its page busy, or of the touch that found no frame.
+        ensures again { WhyAgain St.step st.old result st.new }
 
         // These stand over every storage and every disk.
         ensures fit { Fit self.new (St.view st.new) (D.view disk.new) }

@@ -11,12 +11,12 @@ use Rattle.guest_rules.specs.Turns.{turn}
 use Rattle.guest_rules.specs.Alone.{alone}
 use Rattle.guest_rules.specs.Fit.{Fit}
 use Rattle.guest_rules.specs.Cause.{TurnCause, AloneCause, NoWrongDiscard}
-use Rattle.guest_rules.proofs.Causes.{turn_causes}
-use Rattle.guest_rules.proofs.Discards.{turn_discards}
-use Rattle.guest_rules.proofs.PlanKept.{plan_kept}
-use Rattle.guest_rules.proofs.Bound.{alone_causes}
-use Rattle.guest_rules.proofs.Inversion.{turn_case}
-use Rattle.guest_rules.proofs.FitTurn.{fit_turn}
+use Rattle.guest_rules.proofs.Causes.TurnCauses.{turn_causes}
+use Rattle.guest_rules.proofs.Causes.Discards.{turn_discards}
+use Rattle.guest_rules.proofs.Causes.PlanKept.{plan_kept}
+use Rattle.guest_rules.proofs.Bound.Bound.{alone_causes}
+use Rattle.guest_rules.proofs.Cases.Inversion.{turn_case}
+use Rattle.guest_rules.proofs.Fit.FitTurn.{fit_turn}
 
 -- every turn keeps fit
 pub Fit-turn : (g : GuestState) (cpu : ℕ) (v : StorageView) (d : DiskView) (h : GuestState) (t : Turn) (w : StorageView) (e : DiskView)
@@ -26,7 +26,7 @@ Fit-turn g cpu v d h t w e f below run = fit_turn g cpu v d h t w e f (turn_case
 -- every turn answers for a cause
 pub Causes-turn : (g : GuestState) (cpu : ℕ) (v : StorageView) (d : DiskView) (h : GuestState) (t : Turn) (w : StorageView) (e : DiskView)
     → Fit g v d → cpu < length g.processors → Seen {A = GuestState × Turn} (turn g cpu) v d (h, t) w e → TurnCause g v d cpu t h w e
-Causes-turn g cpu v d h t w e f below run = turn_causes g v w d e cpu h t f (turn_case (flat_of g.plan g.journal) g v w d e cpu h t f below run)
+Causes-turn g cpu v d h t w e f below run = turn_causes g v w d e cpu h t f below run (turn_case (flat_of g.plan g.journal) g v w d e cpu h t f below run)
 
 -- no turn discards a page that may not be discarded
 pub Discards-turn : (g : GuestState) (cpu : ℕ) (v : StorageView) (d : DiskView) (h : GuestState) (t : Turn) (w : StorageView) (e : DiskView)

@@ -3,7 +3,7 @@ use Rattle.std.specs.Prelude.{ℕ, zero, suc, ◌+◌, ◌*◌}
 use Rattle.cmm_types.specs.declared.plan.TheConstants.{MAX_FILE_PAGES}
 use Rattle.cmm_types.specs.declared.plan.GuestPlan.{GuestPlan}
 use Rattle.cmm_types.specs.declared.command.Op.{Op}
-use Rattle.cmm_types.specs.declared.command.Op.TheVariants.{Sync}
+use Rattle.cmm_types.specs.declared.command.Op.TheVariants.{Read, Write, Sync, MapFile, MapAnon, Unmap, Load, Store, Pin, Unpin}
 use Rattle.cmm_types.specs.declared.turn.Turn.{Turn}
 use Rattle.cmm_types.specs.declared.turn.Turn.TheVariants.{Moved, Finished, Waits, Again, Idle}
 use Rattle.cmm_types.specs.declared.turn.Alone.{Alone}
@@ -14,8 +14,16 @@ use Rattle.guest_rules.specs.Turns.{file_pages, turn}
 
 -- so many turns a command takes at most, over a storage that never misses: 12, and a sync 3 more for each page of its file
 abbrev pub turns_of : GuestPlan → Op → ℕ
+turns_of plan (Read file off len) = 12
+turns_of plan (Write file off bytes) = 12
 turns_of plan (Sync file) = 12 + 3 * file_pages plan.files file
-turns_of plan op = 12
+turns_of plan (MapFile number file first count writable) = 12
+turns_of plan (MapAnon number count) = 12
+turns_of plan (Unmap number) = 12
+turns_of plan (Load number off len) = 12
+turns_of plan (Store number off bytes) = 12
+turns_of plan (Pin number index) = 12
+turns_of plan (Unpin number index) = 12
 
 -- and so many any command of any plan
 unfoldable pub most_turns : ℕ

@@ -1,7 +1,7 @@
 -- Which plans a guest can play by now.
 use Rattle.std.specs.Prelude.{◌≤◌, All}
 use Rattle.cmm_types.specs.declared.command.Op.{Op}
-use Rattle.cmm_types.specs.declared.command.Op.TheVariants.{Read, Write, MapFile, Load, Store, Pin, Unpin, Sync}
+use Rattle.cmm_types.specs.declared.command.Op.TheVariants.{Read, Write, Sync, MapFile, MapAnon, Unmap, Load, Store, Pin, Unpin}
 use Rattle.cmm_types.specs.declared.plan.GuestPlan.{GuestPlan}
 use Rattle.cmm_types.specs.InRange.{file_pages_of}
 
@@ -11,11 +11,12 @@ IsBuiltOp (Read file off len) = Unit {0}
 IsBuiltOp (Write file off bytes) = Unit {0}
 IsBuiltOp (Sync file) = Unit {0}
 IsBuiltOp (MapFile number file first count writable) = Unit {0}
+IsBuiltOp (MapAnon number count) = ⊥
+IsBuiltOp (Unmap number) = ⊥
 IsBuiltOp (Load number off len) = Unit {0}
 IsBuiltOp (Store number off bytes) = Unit {0}
 IsBuiltOp (Pin number index) = Unit {0}
 IsBuiltOp (Unpin number index) = Unit {0}
-IsBuiltOp op = ⊥
 
 -- every command is built, and the files' pages together are at most the guest's own
 pub record GuestIsBuilt (plan : GuestPlan) : Type 0 where

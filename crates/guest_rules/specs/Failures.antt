@@ -2,21 +2,29 @@
 use Rattle.std.specs.Prelude.{ℕ, ◌≤◌, List, count_by, Bool, true, false}
 use Rattle.cmm_types.specs.declared.command.Entry.{Entry}
 use Rattle.cmm_types.specs.declared.command.Reply.{Reply}
-use Rattle.cmm_types.specs.declared.command.Reply.TheVariants.{Fail}
-use Rattle.cmm_types.specs.declared.command.Cause.TheVariants.{Disk, Paging}
+use Rattle.cmm_types.specs.declared.command.Reply.TheVariants.{Done, Bytes, Refused, Fail}
+use Rattle.cmm_types.specs.declared.command.Cause.TheVariants.{Disk, Paging, NoPage}
 use Rattle.cmm_io.specs.DiskView.{DiskView}
 use Rattle.cmm_storage.specs.StorageView.{StorageView}
 use Rattle.guest_rules.specs.GuestState.{GuestState}
 
 -- the reply `fail disk`
 abbrev pub is_disk_failure : Reply → Bool
+is_disk_failure Done = false
+is_disk_failure (Bytes bytes) = false
+is_disk_failure (Refused refusal) = false
 is_disk_failure (Fail Disk) = true
-is_disk_failure reply = false
+is_disk_failure (Fail Paging) = false
+is_disk_failure (Fail (NoPage pinned unslotted)) = false
 
 -- the reply `fail paging`
 abbrev pub is_paging_failure : Reply → Bool
+is_paging_failure Done = false
+is_paging_failure (Bytes bytes) = false
+is_paging_failure (Refused refusal) = false
+is_paging_failure (Fail Disk) = false
 is_paging_failure (Fail Paging) = true
-is_paging_failure reply = false
+is_paging_failure (Fail (NoPage pinned unslotted)) = false
 
 -- how many entries of a journal have a reply of this kind
 abbrev pub replies_of : (Reply → Bool) → List Entry → ℕ

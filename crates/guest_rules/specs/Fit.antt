@@ -9,7 +9,7 @@ use Rattle.cmm_types.specs.declared.page.Tag.TheVariants.{File, Anon as AnonTag}
 use Rattle.cmm_types.specs.declared.plan.TheConstants.{MAX_MAPPING_SLOTS}
 use Rattle.cmm_types.specs.declared.command.TheConstants.{MAX_MAPPING_PAGES}
 use Rattle.cmm_types.specs.declared.command.Op.{Op}
-use Rattle.cmm_types.specs.declared.command.Op.TheVariants.{Read, Write, Load, Store, Pin, Sync}
+use Rattle.cmm_types.specs.declared.command.Op.TheVariants.{Read, Write, Sync, MapFile, MapAnon, Unmap, Load, Store, Pin, Unpin}
 use Rattle.cmm_types.specs.declared.plan.CpuPlan.{CpuPlan}
 use Rattle.cmm_types.specs.declared.plan.GuestPlan.{GuestPlan}
 use Rattle.cmm_types.specs.InRange.{GuestInRange, blocks_of}
@@ -44,6 +44,7 @@ pub record SizesFit (g : GuestState) (v : StorageView) (d : DiskView) : Type 0 w
   pub pages : v.pages ≡ g.plan.pages
   pub processors : length g.processors ≡ length g.plan.cpus
   pub files : g.parts.cache.files ≡ map (λ file. file.pages) g.plan.files
+  pub swap : length g.parts.cache.swap ≡ g.plan.swap
   pub slots : g.parts.cache.slots ≡ MAX_MAPPING_SLOTS
   pub index : length g.parts.cache.index ≡ sum g.parts.cache.files + g.parts.cache.slots * MAX_MAPPING_PAGES
   pub blocks : d.count ≡ blocks_of g.plan
@@ -155,10 +156,14 @@ pub record PinsFit (parts : Parts) : Type 0 where
 abbrev pub NeedsPage : Op → Type 0
 NeedsPage (Read file off len) = Unit {0}
 NeedsPage (Write file off bytes) = Unit {0}
+NeedsPage (Sync file) = ⊥
+NeedsPage (MapFile number file first count writable) = ⊥
+NeedsPage (MapAnon number count) = ⊥
+NeedsPage (Unmap number) = ⊥
 NeedsPage (Load number off len) = Unit {0}
 NeedsPage (Store number off bytes) = Unit {0}
 NeedsPage (Pin number index) = Unit {0}
-NeedsPage op = ⊥
+NeedsPage (Unpin number index) = ⊥
 
 -- a processor that fills a page has a command that needs one
 pub record IsFilling (g : GuestState) (cpu page : ℕ) : Type 0 where

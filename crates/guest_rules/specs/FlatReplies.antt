@@ -4,16 +4,20 @@ use Rattle.cmm_types.specs.declared.plan.GuestPlan.{GuestPlan}
 use Rattle.cmm_types.specs.declared.command.Op.{Op}
 use Rattle.cmm_types.specs.declared.command.Entry.{Entry}
 use Rattle.cmm_types.specs.declared.command.Reply.{Reply}
-use Rattle.cmm_types.specs.declared.command.Reply.TheVariants.{Fail}
-use Rattle.cmm_types.specs.declared.command.Cause.TheVariants.{NoPage}
+use Rattle.cmm_types.specs.declared.command.Reply.TheVariants.{Done, Bytes, Refused, Fail}
+use Rattle.cmm_types.specs.declared.command.Cause.TheVariants.{Disk, Paging, NoPage}
 use Rattle.cmm_flat.specs.State.{FlatState}
 use Rattle.cmm_flat.specs.Flat.{flat_step}
 use Rattle.cmm_flat.specs.Legal.{Walk, start_of, after, process_of}
 
 -- the reply `fail nopage`
 abbrev pub IsNoPage : Reply → Type 0
+IsNoPage Done = ⊥
+IsNoPage (Bytes bytes) = ⊥
+IsNoPage (Refused refusal) = ⊥
+IsNoPage (Fail Disk) = ⊥
+IsNoPage (Fail Paging) = ⊥
 IsNoPage (Fail (NoPage pinned unslotted)) = Unit {0}
-IsNoPage reply = ⊥
 
 -- the reply that the flat machine gives in this state, or a failure for want of a page
 abbrev pub IsFlatReply : FlatState → (process : ℕ) → Op → Reply → Type 0

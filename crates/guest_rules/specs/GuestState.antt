@@ -46,7 +46,7 @@ entered g cpu op reply =
 abbrev pub opening_guest : GuestPlan → GuestState
 opening_guest plan = record {
   plan = plan;
-  parts = record { pages = opening_pages plan.pages; cache = opening_cache (map (λ file. file.pages) plan.files) MAX_MAPPING_SLOTS; maps = opening_maps plan.pages MAX_MAPPING_SLOTS; faults = 0 };
+  parts = record { pages = opening_pages plan.pages; cache = opening_cache (map (λ file. file.pages) plan.files) plan.swap MAX_MAPPING_SLOTS; maps = opening_maps plan.pages MAX_MAPPING_SLOTS; faults = 0 };
   journal = [];
   processors = map (λ cpu. at_start) plan.cpus;
 }

@@ -6,7 +6,10 @@ pub mod Turns
 pub mod Alone
 pub mod Built
 pub mod Fit
+pub mod Answers
 pub mod Cause
+pub mod Again
 pub mod Fresh
+pub mod Meanwhile
 pub mod Failures
 pub mod FlatReplies

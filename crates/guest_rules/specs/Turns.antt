@@ -6,7 +6,7 @@ use Rattle.cmm_types.specs.declared.page.Tag.TheVariants.{File as FileTag}
 use Rattle.cmm_types.specs.declared.plan.TheConstants.{MAX_LIVE_MAPPINGS}
 use Rattle.cmm_types.specs.declared.plan.FilePlan.{FilePlan}
 use Rattle.cmm_types.specs.declared.command.Op.{Op}
-use Rattle.cmm_types.specs.declared.command.Op.TheVariants.{Read, Write, MapFile, Load, Store, Pin, Unpin, Sync}
+use Rattle.cmm_types.specs.declared.command.Op.TheVariants.{Read, Write, Sync, MapFile, MapAnon, Unmap, Load, Store, Pin, Unpin}
 use Rattle.cmm_types.specs.declared.command.Reply.TheVariants.{Done as ReplyDone, Bytes, Refused, Fail}
 use Rattle.cmm_types.specs.declared.command.Cause.TheVariants.{NoPage}
 use Rattle.cmm_types.specs.declared.command.FlatRefusal.{FlatRefusal}
@@ -89,7 +89,7 @@ refusal_of_pin_at maps pins index None = Some NoMapping
 refusal_of_pin_at maps pins index (Some slot) =
     if nat_lt index (mapping_pages (slot_at maps slot)) then refusal_of_pin pins (pinned_at maps slot index) else Some OutOfRange
 
--- why a command of a process is refused, as the tables say
+-- why a command of a process is refused, as the tables say. Mappings of pages of their own, and the ends of mappings, aren't built yet
 abbrev pub refusal_in : GuestState → (process : ℕ) → Op → Option FlatRefusal
 refusal_in g process (Read file off len) = if has_bytes g.plan.files file off len then None else Some OutOfRange
 refusal_in g process (Write file off bytes) = if has_bytes g.plan.files file off (length bytes) then None else Some OutOfRange
@@ -99,7 +99,8 @@ refusal_in g process (Store number off bytes) = refusal_at g.parts.maps true off
 refusal_in g process (Pin number index) = refusal_of_pin_at g.parts.maps true index (find_slot g.parts.maps process number)
 refusal_in g process (Unpin number index) = refusal_of_pin_at g.parts.maps false index (find_slot g.parts.maps process number)
 refusal_in g process (Sync file) = if nat_lt file (length g.plan.files) then None else Some OutOfRange
-refusal_in g process op = None
+refusal_in g process (MapAnon number count) = None
+refusal_in g process (Unmap number) = None
 
 -- a free page gets a tag, and is locked by the processor that is to fill it
 unfoldable pub begun : Parts → ℕ → Tag → ℕ → Parts
@@ -155,7 +156,7 @@ pin_in g cpu op page index pins (Some slot) = bind (pin_page g.parts page slot i
 abbrev pub pin_turn : GuestState → ℕ → Op → (page number index : ℕ) → (pins : Bool) → Program (GuestState × Turn)
 pin_turn g cpu op page number index pins = pin_in g cpu op page index pins (find_slot g.parts.maps (process_of g.plan cpu) number)
 
--- the command finds its page up to date
+-- the command finds its page up to date. The others need no page
 unfoldable pub use_turn : GuestState → ℕ → Op → ℕ → Program (GuestState × Turn)
 use_turn g cpu (Read file off len) page = bind (read_page g.parts page (off % PAGE) len) (λ went. read_next g cpu (Read file off len) went.0 went.1)
 use_turn g cpu (Write file off bytes) page = bind (write_page g.parts page (off % PAGE) bytes) (λ went. done_next g cpu (Write file off bytes) went.0 went.1)
@@ -163,13 +164,23 @@ use_turn g cpu (Load number off len) page = resolve_turn g cpu page number off f
 use_turn g cpu (Store number off bytes) page = resolve_turn g cpu page number off true
 use_turn g cpu (Pin number index) page = pin_turn g cpu (Pin number index) page number index true
 use_turn g cpu (Unpin number index) page = pin_turn g cpu (Unpin number index) page number index false
-use_turn g cpu op page = done (g, Idle)
+use_turn g cpu (Sync file) page = done (g, Idle)
+use_turn g cpu (MapFile number file first count writable) page = done (g, Idle)
+use_turn g cpu (MapAnon number count) page = done (g, Idle)
+use_turn g cpu (Unmap number) page = done (g, Idle)
 
--- a load or a store finds its entry
+-- a load or a store finds its entry. The others go through none
 unfoldable pub hit_turn : GuestState → ℕ → Op → ℕ → Program (GuestState × Turn)
 hit_turn g cpu (Load number off len) page = bind (load_page g.parts page (off % PAGE) len) (λ went. read_next g cpu (Load number off len) went.0 went.1)
 hit_turn g cpu (Store number off bytes) page = bind (store_through g.parts page (off % PAGE) bytes) (λ went. done_next g cpu (Store number off bytes) went.0 went.1)
-hit_turn g cpu op page = done (g, Idle)
+hit_turn g cpu (Read file off len) page = done (g, Idle)
+hit_turn g cpu (Write file off bytes) page = done (g, Idle)
+hit_turn g cpu (Sync file) page = done (g, Idle)
+hit_turn g cpu (MapFile number file first count writable) page = done (g, Idle)
+hit_turn g cpu (MapAnon number count) page = done (g, Idle)
+hit_turn g cpu (Unmap number) page = done (g, Idle)
+hit_turn g cpu (Pin number index) page = done (g, Idle)
+hit_turn g cpu (Unpin number index) page = done (g, Idle)
 
 -- no page has the tag. There is always a free one: the files' pages together are at most the guest's
 abbrev pub start_free : GuestState → ℕ → Op → Tag → List ℕ → Program (GuestState × Turn)
@@ -229,21 +240,38 @@ abbrev pub sync_found : GuestState → ℕ → Op → (pages index : ℕ) → Op
 sync_found g cpu op pages index None = done (passed g cpu op pages index)
 sync_found g cpu op pages index (Some page) = bind (sync_page g.parts page cpu) (λ went. sync_next g cpu op pages index page went.0 went.1)
 
--- a sync looks at page `index` of its file
+-- a sync looks at page `index` of its file. No other command is ever in this phase
 unfoldable pub sync_turn : GuestState → ℕ → Op → (index : ℕ) → Program (GuestState × Turn)
 sync_turn g cpu (Sync file) index = sync_found g cpu (Sync file) (file_pages g.plan.files file) index (page_of g.parts.cache (FileTag file index))
-sync_turn g cpu op index = done (g, Idle)
+sync_turn g cpu (Read file off len) index = done (g, Idle)
+sync_turn g cpu (Write file off bytes) index = done (g, Idle)
+sync_turn g cpu (MapFile number file first count writable) index = done (g, Idle)
+sync_turn g cpu (MapAnon number count) index = done (g, Idle)
+sync_turn g cpu (Unmap number) index = done (g, Idle)
+sync_turn g cpu (Load number off len) index = done (g, Idle)
+sync_turn g cpu (Store number off bytes) index = done (g, Idle)
+sync_turn g cpu (Pin number at) index = done (g, Idle)
+sync_turn g cpu (Unpin number at) index = done (g, Idle)
 
 abbrev pub written_next : GuestState → ℕ → Op → (pages index : ℕ) → Parts → Filled → Program (GuestState × Turn)
 written_next g cpu op pages index parts FilledDone = done (passed (with_parts g parts) cpu op pages index)
 written_next g cpu op pages index parts (FilledAgain why) = done (with_parts g parts, Again why)
 written_next g cpu op pages index parts (FilledFail cause) = done (entered (with_parts g parts) cpu op (Fail cause), Finished)
 
--- a sync writes page `index` of its file back
+-- a sync writes page `index` of its file back. No other command is ever in this phase
 unfoldable pub write_back_turn : GuestState → ℕ → Op → (index page : ℕ) → Program (GuestState × Turn)
 write_back_turn g cpu (Sync file) index page = bind (write_back g.parts page) (λ went. written_next g cpu (Sync file) (file_pages g.plan.files file) index went.0 went.1)
-write_back_turn g cpu op index page = done (g, Idle)
+write_back_turn g cpu (Read file off len) index page = done (g, Idle)
+write_back_turn g cpu (Write file off bytes) index page = done (g, Idle)
+write_back_turn g cpu (MapFile number file first count writable) index page = done (g, Idle)
+write_back_turn g cpu (MapAnon number count) index page = done (g, Idle)
+write_back_turn g cpu (Unmap number) index page = done (g, Idle)
+write_back_turn g cpu (Load number off len) index page = done (g, Idle)
+write_back_turn g cpu (Store number off bytes) index page = done (g, Idle)
+write_back_turn g cpu (Pin number at) index page = done (g, Idle)
+write_back_turn g cpu (Unpin number at) index page = done (g, Idle)
 
+-- a command that isn't refused. Mappings of pages of their own, and the ends of mappings, aren't built yet
 abbrev pub start_accepted : GuestState → ℕ → Op → Program (GuestState × Turn)
 start_accepted g cpu (Read file off len) = start_tagged g cpu (Read file off len) (FileTag file (off / PAGE))
 start_accepted g cpu (Write file off bytes) = start_tagged g cpu (Write file off bytes) (FileTag file (off / PAGE))
@@ -254,7 +282,8 @@ start_accepted g cpu (Store number off bytes) = start_mapped g cpu (Store number
 start_accepted g cpu (Pin number index) = start_placed g cpu (Pin number index) index (find_slot g.parts.maps (process_of g.plan cpu) number)
 start_accepted g cpu (Unpin number index) = start_placed g cpu (Unpin number index) index (find_slot g.parts.maps (process_of g.plan cpu) number)
 start_accepted g cpu (Sync file) = sync_turn g cpu (Sync file) 0
-start_accepted g cpu op = done (g, Idle)
+start_accepted g cpu (MapAnon number count) = done (g, Idle)
+start_accepted g cpu (Unmap number) = done (g, Idle)
 
 abbrev pub start_refused : GuestState → ℕ → Op → Option FlatRefusal → Program (GuestState × Turn)
 start_refused g cpu op (Some refusal) = done (entered g cpu op (Refused refusal), Finished)

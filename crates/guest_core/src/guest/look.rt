@@ -14,9 +14,9 @@ ghost use Rattle.guest_rules.specs.declared.processor.Phase.TheVariants.{Start};
 ghost use Rattle.guest_rules.specs.GuestState.{processor_at};
 ghost use Rattle.guest_rules.specs.Turns.{refusal_of_new, refusal_in, has_bytes, begin_turn, use_turn, hit_turn, start_tagged, start_at, start_entry, start_mapped, start_placed, map_turn, start_accepted, start_turn, turn};
 ghost use Rattle.guest_rules.specs.Fit.{all_commands};
-ghost use Rattle.guest_rules.proofs.TurnCases.{Starts, Wants};
-ghost use Rattle.guest_rules.proofs.Placed.{ReachesPlace};
-ghost use Rattle.guest_rules.proofs.Reached.{Reaches};
+ghost use Rattle.guest_rules.proofs.Cases.TurnCases.{Starts, Wants};
+ghost use Rattle.guest_rules.proofs.Cases.Placed.{ReachesPlace};
+ghost use Rattle.guest_rules.proofs.Cases.Reached.{Reaches};
 ghost use Rattle.guest_core.specs.Between.{IsFit, serving};
 
 use super::Guest;
@@ -264,7 +264,7 @@ impl Guest {
             Op::Pin { map, page } => self.start_placed(cpu, st, op, *map, *page),
             Op::Unpin { map, page } => self.start_placed(cpu, st, op, *map, *page),
             Op::Sync { file } => self.sync_turn(cpu, st, *file, 0),
-            _ => Turn::Idle,
+            Op::MapAnon { .. } | Op::Unmap { .. } => Turn::Idle,
         }
     }
 
@@ -339,7 +339,7 @@ impl Guest {
                     Some(FlatRefusal::OutOfRange)
                 }
             }
-            _ => None,
+            Op::MapAnon { .. } | Op::Unmap { .. } => None,
         }
     }
 

@@ -17,8 +17,8 @@ ghost use Rattle.guest_rules.specs.GuestState.{processor_at};
 ghost use Rattle.guest_rules.specs.Rows.{backing_at};
 ghost use Rattle.guest_rules.specs.Turns.{begun, begin_turn, use_turn, hit_turn, resolve_turn, pin_turn, fill_turn, turn};
 ghost use Rattle.guest_rules.specs.Fit.{all_commands};
-ghost use Rattle.guest_rules.proofs.TurnCases.{HasItsTag, Starts};
-ghost use Rattle.guest_rules.proofs.ReadyCalls.{CanBeUsed};
+ghost use Rattle.guest_rules.proofs.Cases.TurnCases.{HasItsTag, Starts};
+ghost use Rattle.guest_rules.proofs.Ready.ReadyCalls.{CanBeUsed};
 ghost use Rattle.guest_core.specs.Between.{IsFit, Hits};
 
 use super::Guest;
@@ -363,7 +363,8 @@ impl Guest {
             Op::Store { map, off, bytes: _ } => self.resolve_turn(cpu, st, page, *map, *off, true),
             Op::Pin { map, page: index } => self.pin_turn(cpu, st, op, page, *map, *index, true),
             Op::Unpin { map, page: index } => self.pin_turn(cpu, st, op, page, *map, *index, false),
-            _ => Turn::Idle,
+            Op::Sync { .. } | Op::MapFile { .. } | Op::MapAnon { .. } | Op::Unmap { .. } =>
+                Turn::Idle,
         }
     }
 
@@ -386,7 +387,14 @@ impl Guest {
         match op {
             Op::Load { map, off, len } => self.load_turn(cpu, st, *map, *off, *len, page),
             Op::Store { map, off, bytes } => self.store_turn(cpu, st, *map, *off, bytes, page),
-            _ => Turn::Idle,
+            Op::Read { .. }
+            | Op::Write { .. }
+            | Op::Sync { .. }
+            | Op::MapFile { .. }
+            | Op::MapAnon { .. }
+            | Op::Unmap { .. }
+            | Op::Pin { .. }
+            | Op::Unpin { .. } => Turn::Idle,
         }
     }
 

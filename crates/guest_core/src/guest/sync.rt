@@ -114,7 +114,15 @@ impl Guest {
     {
         match op {
             Op::Sync { file } => self.sync_turn(cpu, st, *file, index),
-            _ => Turn::Idle,
+            Op::Read { .. }
+            | Op::Write { .. }
+            | Op::MapFile { .. }
+            | Op::MapAnon { .. }
+            | Op::Unmap { .. }
+            | Op::Load { .. }
+            | Op::Store { .. }
+            | Op::Pin { .. }
+            | Op::Unpin { .. } => Turn::Idle,
         }
     }
 
@@ -172,7 +180,15 @@ impl Guest {
     {
         match op {
             Op::Sync { file } => self.write_file_back(cpu, st, disk, *file, index, page),
-            _ => Turn::Idle,
+            Op::Read { .. }
+            | Op::Write { .. }
+            | Op::MapFile { .. }
+            | Op::MapAnon { .. }
+            | Op::Unmap { .. }
+            | Op::Load { .. }
+            | Op::Store { .. }
+            | Op::Pin { .. }
+            | Op::Unpin { .. } => Turn::Idle,
         }
     }
 }

@@ -1,6 +1,6 @@
 use Rattle.std.proofs.Common.{subst}
-use Rattle.guest_rules.proofs.TurnCases.{Has}
-use Rattle.guest_rules.proofs.ReadyCalls.{load-piece, store-piece, page-shown}
+use Rattle.guest_rules.proofs.Cases.TurnCases.{Has}
+use Rattle.guest_rules.proofs.Ready.ReadyCalls.{load-piece, store-piece, page-shown}
 use Rattle.guest_core.proofs.Entries.{hit-usable, hit-used, hit-writable}
 use Rattle.guest_core.proofs.guest.Guest.hit_turn.Goals as goal
 

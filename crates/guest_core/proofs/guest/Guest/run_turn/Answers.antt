@@ -1,6 +1,6 @@
 use Rattle.std.proofs.Common.{sym, ap, ◌∙◌, arith}
 use Rattle.guest_rules.specs.declared.processor.Processor.{Processor}
-use Rattle.guest_rules.proofs.ReadyCalls.{journal-room, place-below, filling-usable, backing-below, page-shown}
+use Rattle.guest_rules.proofs.Ready.ReadyCalls.{journal-room, place-below, filling-usable, backing-below, page-shown}
 use Rattle.guest_core.proofs.guest.Guest.run_turn.Goals as goal
 
 pub start_turn-requires-clause-room : goal.start_turn-requires-clause-room

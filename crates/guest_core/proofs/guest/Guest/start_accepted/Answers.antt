@@ -1,10 +1,10 @@
 use Rattle.std.proofs.Common.{true, false, refl, ap, sym, subst, ◌∙◌}
 use Rattle.cmm_flat.specs.Legal.{flat_of, process_of}
 use Rattle.cmm_storage.specs.Program.{DoesAlone}
-use Rattle.guest_rules.proofs.TurnCases.{Starts, wanted_tag}
-use Rattle.guest_rules.proofs.Placed.{pin-reaches}
-use Rattle.guest_rules.proofs.Reached.{load_reaches, store_reaches}
-use Rattle.guest_rules.proofs.ReadyCalls.{load-piece, store-piece, process-below, map-pages, map-free, pin-piece, sync-starts}
+use Rattle.guest_rules.proofs.Cases.TurnCases.{Starts, wanted_tag}
+use Rattle.guest_rules.proofs.Cases.Placed.{pin-reaches}
+use Rattle.guest_rules.proofs.Cases.Reached.{load_reaches, store_reaches}
+use Rattle.guest_rules.proofs.Ready.ReadyCalls.{load-piece, store-piece, process-below, map-pages, map-free, pin-piece, sync-starts}
 use Rattle.guest_core.proofs.OtherTurns.{accepted-read, accepted-write, accepted-map, accepted-load, accepted-store, new-fresh, accepted-pin, accepted-unpin, accepted-sync}
 use Rattle.guest_core.proofs.guest.Guest.start_accepted.Goals as goal
 

@@ -2,7 +2,7 @@ use Rattle.std.proofs.Common.{◌/◌, ap, sym, subst, ◌∙◌}
 use Rattle.cmm_types.specs.declared.page.TheConstants.{PAGE}
 use Rattle.cmm_storage.specs.Program.{DoesAlone}
 use Rattle.guest_maps.specs.MapsView.{entry_at}
-use Rattle.guest_rules.proofs.ReadyCalls.{reached-place}
+use Rattle.guest_rules.proofs.Ready.ReadyCalls.{reached-place}
 use Rattle.guest_core.specs.Between.{serving}
 use Rattle.guest_core.proofs.Spots.{seen-spot, spot-there}
 use Rattle.guest_core.proofs.OtherTurns.{entry-served, entry-unserved, served-entry}

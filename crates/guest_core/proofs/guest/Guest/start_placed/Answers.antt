@@ -1,6 +1,6 @@
 use Rattle.std.proofs.Common.{sym, ◌∙◌}
 use Rattle.cmm_flat.specs.Legal.{process_of}
-use Rattle.guest_rules.proofs.StepResolved.{found-below}
+use Rattle.guest_rules.proofs.Fit.StepResolved.{found-below}
 use Rattle.guest_core.proofs.guest.Guest.start_placed.Goals as goal
 
 pub start_place-requires-clause-slot : goal.start_place-requires-clause-slot

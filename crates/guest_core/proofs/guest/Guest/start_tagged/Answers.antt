@@ -1,7 +1,7 @@
 use Rattle.std.proofs.Common.{sym, ◌∙◌}
 use Rattle.cmm_flat.specs.Legal.{flat_of}
-use Rattle.guest_rules.proofs.WantedTags.{is_wanted}
-use Rattle.guest_rules.proofs.ReadyCalls.{found-usable}
+use Rattle.guest_rules.proofs.Cases.WantedTags.{is_wanted}
+use Rattle.guest_rules.proofs.Ready.ReadyCalls.{found-usable}
 use Rattle.guest_core.proofs.Ready.{next_below, next_below_view}
 use Rattle.guest_core.proofs.guest.Guest.start_tagged.Goals as goal
 

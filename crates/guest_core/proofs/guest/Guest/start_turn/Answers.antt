@@ -1,7 +1,7 @@
 use Rattle.std.proofs.Common.{sym, ◌∙◌}
 use Rattle.guest_rules.specs.GuestState.{processor_at}
-use Rattle.guest_rules.proofs.Commands.{command-in_range}
-use Rattle.guest_rules.proofs.ReadyCalls.{process-below}
+use Rattle.guest_rules.proofs.Cases.Commands.{command-in_range}
+use Rattle.guest_rules.proofs.Ready.ReadyCalls.{process-below}
 use Rattle.guest_core.proofs.guest.Guest.start_turn.Goals as goal
 
 pub refusal_on-requires-clause-process : goal.refusal_on-requires-clause-process

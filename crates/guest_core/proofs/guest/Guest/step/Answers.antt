@@ -3,6 +3,7 @@ use Rattle.cmm_types.specs.declared.turn.Turn.{Turn}
 use Rattle.guest_rules.specs.GuestState.{GuestState}
 use Rattle.guest_rules.specs.Turns.{turn}
 use Rattle.guest_rules.proofs.TurnLaws.{Fit-turn, Causes-turn, Discards-turn, plan-turn}
+use Rattle.guest_rules.proofs.Causes.TurnEnds.{why_again}
 use Rattle.guest_core.proofs.guest.Guest.step.Given.{Over}
 use Rattle.guest_core.proofs.guest.Guest.step.Goals as goal
 
@@ -22,3 +23,7 @@ returns-clause-discards g c = Discards-turn c.args.self.now c.args.cpu _ _ c.run
 
 pub returns-clause-plan : goal.returns-clause-plan
 returns-clause-plan g c = plan-turn c.args.self.now c.args.cpu _ _ c.run_turn.new.self c.run_turn.result _ _ c.requires.fit c.requires.cpu (seen g c)
+
+pub returns-clause-again : goal.returns-clause-again
+returns-clause-again g c =
+    why_again g.St.Storage.step g.D.Disk.step c.args.self.now c.args.cpu c.run_turn.new.self c.run_turn.result c.args.st.now c.run_turn.new.st c.args.disk.now c.run_turn.new.disk c.run_turn.ensures.row

@@ -1,5 +1,5 @@
 use Rattle.std.proofs.Common.{sym, ◌∙◌}
-use Rattle.guest_rules.proofs.ReadyCalls.{page-shown}
+use Rattle.guest_rules.proofs.Ready.ReadyCalls.{page-shown}
 use Rattle.guest_core.proofs.Syncs.{sync-usable}
 use Rattle.guest_core.proofs.guest.Guest.sync_turn.Goals as goal
 

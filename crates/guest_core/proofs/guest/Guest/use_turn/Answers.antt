@@ -1,11 +1,11 @@
 use Rattle.std.proofs.Common.{true, false, sym, subst}
 use Rattle.cmm_flat.specs.Legal.{flat_of}
 use Rattle.cmm_storage.specs.Program.{DoesAlone}
-use Rattle.guest_rules.proofs.TurnCases.{Starts, HasItsTag}
-use Rattle.guest_rules.proofs.WantedTags.{write-piece}
-use Rattle.guest_rules.proofs.Placed.{pin-reaches}
-use Rattle.guest_rules.proofs.Reached.{load_reaches, store_reaches}
-use Rattle.guest_rules.proofs.ReadyCalls.{read-piece, load-piece, store-piece, page-shown, process-below, writers-most, reached-place, pin-piece, pins-most, unpin-some}
+use Rattle.guest_rules.proofs.Cases.TurnCases.{Starts, HasItsTag}
+use Rattle.guest_rules.proofs.Cases.WantedTags.{write-piece}
+use Rattle.guest_rules.proofs.Cases.Placed.{pin-reaches}
+use Rattle.guest_rules.proofs.Cases.Reached.{load_reaches, store_reaches}
+use Rattle.guest_rules.proofs.Ready.ReadyCalls.{read-piece, load-piece, store-piece, page-shown, process-below, writers-most, reached-place, pin-piece, pins-most, unpin-some}
 use Rattle.guest_core.proofs.OtherTurns.{use-load, use-store, use-pin, use-unpin}
 use Rattle.guest_core.proofs.guest.Guest.use_turn.Goals as goal
 

@@ -1,4 +1,4 @@
-use Rattle.guest_rules.proofs.ReadyCalls.{writing-usable, backing-below}
+use Rattle.guest_rules.proofs.Ready.ReadyCalls.{writing-usable, backing-below}
 use Rattle.guest_core.proofs.Syncs.{write-next, write-used}
 use Rattle.guest_core.proofs.guest.Guest.write_back_turn.Goals as goal
 

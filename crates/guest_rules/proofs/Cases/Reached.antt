@@ -1,0 +1,117 @@
+-- The tag of the page that an accepted command needs, and the room for a new mapping.
+use Rattle.std.specs.Prelude.{◌≡◌, ◌<◌, ◌≤◌, ℕ, ◌+◌, ◌*◌, ◌/◌, nat_le, if◌then◌else◌, List, length, Bool, true, false, Option, Some, None, refl}
+use Rattle.std.proofs.Common.{arith, ap, sym, ◌∙◌}
+use Rattle.std.proofs.lemmas.Bool.Decides.{nat_tests}
+use Rattle.cmm_types.specs.declared.page.TheConstants.{PAGE}
+use Rattle.cmm_types.specs.declared.page.Tag.{Tag}
+use Rattle.cmm_types.specs.declared.page.Tag.TheVariants.{File}
+use Rattle.cmm_types.specs.declared.plan.TheConstants.{MAX_LIVE_MAPPINGS, MAX_MAPPING_SLOTS}
+use Rattle.cmm_types.specs.declared.command.TheConstants.{MAX_MAPPING_PAGES}
+use Rattle.cmm_types.specs.declared.command.Op.{Op}
+use Rattle.cmm_types.specs.declared.command.Op.TheVariants.{Read, Write, MapFile, Load, Store}
+use Rattle.cmm_types.specs.declared.command.FlatRefusal.TheVariants.{OutOfRange, TooManyMaps}
+use Rattle.cmm_io.specs.DiskView.{DiskView}
+use Rattle.cmm_flat.specs.State.{FlatState}
+use Rattle.cmm_flat.specs.Legal.{process_of}
+use Rattle.cmm_storage.specs.StorageView.{StorageView}
+use Rattle.guest_pages.specs.PagesView.{info_at}
+use Rattle.guest_maps.specs.declared.slot.Pte.{Pte}
+use Rattle.guest_maps.specs.MapsView.{slot_at, find_slot, free_slot, live_slots, is_live, entry_at, tag_of, tag_at}
+use Rattle.guest_rules.specs.GuestState.{GuestState, processor_at}
+use Rattle.guest_rules.specs.Turns.{has_bytes, mapping_pages, refusal_at, refusal_of_new}
+use Rattle.guest_rules.specs.Fit.{FitAt}
+use Rattle.guest_rules.proofs.Cases.TurnCases.{Starts, Wants, Maps, CanBeSet, pin_op, ShowsPage}
+use Rattle.guest_rules.proofs.Cases.MapsFound.{found_slot, none_free, all_counted, tag_at-place}
+use Rattle.guest_rules.proofs.Kept.PageFits.{tagged-below}
+use Rattle.guest_rules.proofs.Cases.Commands.{command-in_range}
+use Rattle.guest_rules.proofs.Fit.StepResolved.{accepted_at}
+
+within_pages : (off len pages : ℕ) → off + len ≤ PAGE * pages → 1 ≤ len → off / PAGE < pages
+within_pages off len pages h some = omega (arith, h, some)
+
+-- what a command works on
+pub data Uses (g : GuestState) (cpu : ℕ) (op : Op) (tag : Tag) : Type 0 where
+  -- it reads the tag's page
+  reads : (file off len : ℕ) → op ≡ Read file off len → tag ≡ File file (off / PAGE) → Uses g cpu op tag
+  -- it writes to the tag's page
+  overwrites : (file off : ℕ) (bytes : List ℕ) → op ≡ Write file off bytes → tag ≡ File file (off / PAGE) → Uses g cpu op tag
+  -- it sets the entry that is to show the tag's page
+  sets : (writes : Bool) (slot off : ℕ) → Maps g cpu op writes slot off → CanBeSet (entry_at g.parts.maps slot (off / PAGE)) writes → Uses g cpu op tag
+  -- it pins the place of the tag, or unpins it
+  places : (pins : Bool) (number index slot : ℕ) → op ≡ pin_op pins number index → find_slot g.parts.maps (process_of g.plan cpu) number ≡ Some slot → Uses g cpu op tag
+
+-- an accepted command, and the tag of the page that it needs
+pub record Proceeds (g : GuestState) (cpu : ℕ) (op : Op) (tag : Tag) : Type 0 where
+  pub starts : Starts g cpu op
+  pub wants : Wants g cpu op tag
+  pub uses : Uses g cpu op tag
+
+-- the command loads or stores at a page of the mapping in a slot
+pub record Reaches (g : GuestState) (cpu : ℕ) (op : Op) (writes : Bool) (slot off : ℕ) : Type 0 where
+  pub starts : Starts g cpu op
+  pub maps : Maps g cpu op writes slot off
+  pub tag : Tag
+  pub shown : tag_at g.parts.maps slot (off / PAGE) ≡ Some tag
+  pub wants : Wants g cpu op tag
+  pub within : off / PAGE < MAX_MAPPING_PAGES
+
+-- what stands at a page of the mapping in a slot
+record IsShownAt (g : GuestState) (slot index : ℕ) : Type 0 where
+  tag : Tag
+  shown : tag_at g.parts.maps slot index ≡ Some tag
+  within : index < MAX_MAPPING_PAGES
+
+-- a load or store that isn't refused reaches a page of its mapping
+reached : (state : FlatState) (g : GuestState) (v : StorageView) (d : DiskView) (process number : ℕ) (writes : Bool) (off len slot : ℕ) → FitAt state g v d → find_slot g.parts.maps process number ≡ Some slot
+    → refusal_at g.parts.maps writes off len (find_slot g.parts.maps process number) ≡ None → 1 ≤ len → IsShownAt g slot (off / PAGE)
+reached state g v d process number writes off len slot f found accepted some =
+    let at = found_slot g.parts.maps process number slot found in
+    let accepted' : refusal_at g.parts.maps writes off len (Some slot) ≡ None = ap (λ q. refusal_at g.parts.maps writes off len q) (sym found) ∙ accepted in
+    let room : off + len ≤ PAGE * mapping_pages (slot_at g.parts.maps slot) = (accepted_at g.parts.maps writes slot off len accepted').within in
+    let within : off / PAGE < at.mapping.count = within_pages off len at.mapping.count (rw at.at at room) some in
+    record { tag = tag_of at.mapping.shown slot (off / PAGE); shown = tag_at-place g.parts.maps slot (off / PAGE) at.mapping at.at within; within = omega (arith, within, (f.slots.shown slot at.mapping at.at).0) }
+
+pub load_reaches : (state : FlatState) (g : GuestState) (v : StorageView) (d : DiskView) (cpu number off len slot : ℕ) → FitAt state g v d → Starts g cpu (Load number off len)
+    → find_slot g.parts.maps (process_of g.plan cpu) number ≡ Some slot → Reaches g cpu (Load number off len) false slot off
+load_reaches state g v d cpu number off len slot f starts found =
+    let range = command-in_range g.plan cpu (processor_at g cpu).place (Load number off len) f.sizes.range starts.has.command in
+    let k = reached state g v d (process_of g.plan cpu) number false off len slot f found starts.accepted range.1.some in
+    record { starts = starts; maps = (refl, found, refl); tag = k.tag; shown = k.shown; wants = rw found k.shown; within = k.within }
+
+pub store_reaches : (state : FlatState) (g : GuestState) (v : StorageView) (d : DiskView) (cpu number off : ℕ) (bytes : List ℕ) (slot : ℕ) → FitAt state g v d → Starts g cpu (Store number off bytes)
+    → find_slot g.parts.maps (process_of g.plan cpu) number ≡ Some slot → Reaches g cpu (Store number off bytes) true slot off
+store_reaches state g v d cpu number off bytes slot f starts found =
+    let range = command-in_range g.plan cpu (processor_at g cpu).place (Store number off bytes) f.sizes.range starts.has.command in
+    let k = reached state g v d (process_of g.plan cpu) number true off (length bytes) slot f found starts.accepted range.1.some in
+    record { starts = starts; maps = (refl, found, refl); tag = k.tag; shown = k.shown; wants = rw found k.shown; within = k.within }
+
+-- the page of the entry that a load or store finds has the place's tag, and is up to date
+pub entry_page : (state : FlatState) (g : GuestState) (v : StorageView) (d : DiskView) (cpu : ℕ) (op : Op) (writes : Bool) (slot off : ℕ) (pte : Pte) → FitAt state g v d
+    → (k : Reaches g cpu op writes slot off) → entry_at g.parts.maps slot (off / PAGE) ≡ Some pte → ShowsPage g k.tag pte.page
+entry_page state g v d cpu op writes slot off pte f k at =
+    let is = f.entries.entry slot (off / PAGE) pte k.within at in
+    let both : Some is.tag ≡ Some k.tag = sym is.mapped ∙ k.shown in
+    let same : is.tag ≡ k.tag = cc in
+    let tagged : (info_at g.parts.pages pte.page).tag ≡ Some k.tag = is.tagged ∙ ap Some same in
+    record { below = tagged-below g.parts.pages pte.page k.tag tagged; tagged = tagged; uptodate = is.uptodate }
+
+fewer : (within : Bool) (live : ℕ) → (if within then (if nat_le MAX_LIVE_MAPPINGS live then Some TooManyMaps else None) else Some OutOfRange) ≡ None → live < MAX_LIVE_MAPPINGS
+fewer within live e = grind (arith, nat_tests)
+
+full : (live slots : ℕ) → live < MAX_LIVE_MAPPINGS → live ≡ slots → slots ≡ MAX_MAPPING_SLOTS → ⊥
+full live slots few same all = omega (arith, few, same, all)
+
+-- where a new mapping isn't refused, some slot is free
+pub has_free_slot : (state : FlatState) (g : GuestState) (v : StorageView) (d : DiskView) (cpu number file first count : ℕ) (writable : Bool) → FitAt state g v d
+    → Starts g cpu (MapFile number file first count writable) → free_slot g.parts.maps ≡ None → ⊥
+has_free_slot state g v d cpu number file first count writable f starts none =
+    let few = accepted_new (find_slot g.parts.maps (process_of g.plan cpu) number) starts.accepted in
+    let all = all_counted is_live None g.parts.maps.slots live in
+    full (live_slots g.parts.maps) (length g.parts.maps.slots) few all f.slots.slots
+  where
+    accepted_new : (o : Option ℕ) → refusal_of_new g file first count o ≡ None → live_slots g.parts.maps < MAX_LIVE_MAPPINGS
+    accepted_new None e = fewer (has_bytes g.plan.files file (PAGE * first) (PAGE * count)) (live_slots g.parts.maps) e
+    accepted_new (Some slot) e = absurd (cc e)
+
+    live : (i : ℕ) → i < length g.parts.maps.slots → is_live (slot_at g.parts.maps i) ≡ true
+    live i below = let m = none_free g.parts.maps i none below in ap is_live m.1 ∙ f.slots.live i m.0 m.1

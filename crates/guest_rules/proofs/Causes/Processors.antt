@@ -1,0 +1,35 @@
+-- Where a turn's processor is after it.
+use Rattle.std.specs.Prelude.{◌≡◌, ◌<◌, ℕ, ◌+◌, length, Some}
+use Rattle.std.proofs.Common.{ap, ◌∙◌, get_or-set_same}
+use Rattle.cmm_types.specs.declared.command.Op.{Op}
+use Rattle.cmm_types.specs.declared.command.Reply.{Reply}
+use Rattle.cmm_flat.specs.Legal.{command_of}
+use Rattle.guest_rules.specs.declared.parts.Parts.{Parts}
+use Rattle.guest_rules.specs.declared.processor.Phase.{Phase}
+use Rattle.guest_rules.specs.declared.processor.Phase.TheVariants.{Start}
+use Rattle.guest_rules.specs.GuestState.{GuestState, processor_at, at_start, with_parts, with_phase, entered}
+use Rattle.guest_rules.proofs.Cases.TurnCases.{Has}
+
+pub processor-with_phase : (g : GuestState) (cpu : ℕ) (phase : Phase) → cpu < length g.processors
+    → processor_at (with_phase g cpu phase) cpu ≡ record { place = (processor_at g cpu).place; phase = phase }
+unfolding with_phase
+processor-with_phase g cpu phase below = get_or-set_same g.processors cpu (record { place = (processor_at g cpu).place; phase = phase }) at_start below
+
+pub processor-entered : (g : GuestState) (cpu : ℕ) (op : Op) (reply : Reply) → cpu < length g.processors
+    → processor_at (entered g cpu op reply) cpu ≡ record { place = (processor_at g cpu).place + 1; phase = Start }
+unfolding entered
+processor-entered g cpu op reply below = get_or-set_same g.processors cpu (record { place = (processor_at g cpu).place + 1; phase = Start }) at_start below
+
+-- the processor has the same command in its new phase
+pub record IsAt (h : GuestState) (cpu : ℕ) (op : Op) (phase : Phase) : Type 0 where
+  pub command : command_of h.plan cpu (processor_at h cpu).place ≡ Some op
+  pub phase_is : (processor_at h cpu).phase ≡ phase
+
+pub at_phase : (g : GuestState) (cpu : ℕ) (op : Op) (parts : Parts) (phase : Phase) → Has g cpu op → IsAt (with_phase (with_parts g parts) cpu phase) cpu op phase
+unfolding with_phase
+at_phase g cpu op parts phase has =
+    let here = processor-with_phase (with_parts g parts) cpu phase has.below in
+    record {
+      command = ap (λ q. command_of g.plan cpu q.place) here ∙ has.command;
+      phase_is = ap (λ q. q.phase) here;
+    }

@@ -1,0 +1,118 @@
+-- Fit of the whole guest, from fit of its parts, where one page changed.
+use Rattle.std.proofs.Common.{◌≡◌, ◌≢◌, ◌<◌, ◌≤◌, ◌+◌, ℕ, length, refl, ap, sym, ◌∙◌, inl, inr, arith}
+use Rattle.std.proofs.lemmas.Bool.{cases_eq}
+use Rattle.cmm_io.specs.DiskView.{DiskView}
+use Rattle.cmm_flat.specs.State.{FlatState}
+use Rattle.essa_state.specs.PageValue.{MayBecome}
+use Rattle.cmm_storage.specs.StorageView.{StorageView}
+use Rattle.guest_pages.specs.declared.info.PageInfo.{PageInfo}
+use Rattle.guest_pages.specs.PagesView.{info_at}
+use Rattle.guest_rules.specs.declared.processor.Phase.{Phase}
+use Rattle.guest_rules.specs.declared.processor.Processor.{Processor}
+use Rattle.guest_rules.specs.GuestState.{GuestState, processor_at}
+use Rattle.guest_rules.specs.Fit.{PagesFit, SlotsFit, EntriesFit, FlatFit, LocksFit, JournalFit, FaultsFit, FitAt, one_if_lost}
+use Rattle.guest_rules.proofs.Cases.TurnCases.{GivenBack}
+use Rattle.guest_rules.proofs.Rows.ValueLaws.{may-faults}
+use Rattle.guest_rules.proofs.Kept.Faults.{sum_below-more}
+use Rattle.guest_rules.proofs.Kept.Changes.{InfoChange, PhaseChange}
+use Rattle.guest_rules.proofs.Kept.PageFits.{PageFits, EachPageFits, PageFits-may, PageFits-same, EachPageFits-from, HintsFit-from, ContentsFit-from}
+use Rattle.guest_rules.proofs.Kept.PinsKept.{PinsStand, PinsFit-from}
+use Rattle.guest_rules.proofs.Kept.Currents.{SameCurrent}
+use Rattle.guest_rules.proofs.Fit.FitMay.{infos-pages}
+
+-- only a processor's phase changed
+pub JournalFit-phase : (g h : GuestState) (cpu : ℕ) (phase : Phase) → JournalFit g → h.plan ≡ g.plan → h.journal ≡ g.journal → PhaseChange g.processors h.processors cpu phase → JournalFit h
+JournalFit-phase g h cpu phase f plan journal change = record {
+  legal = rw (plan, journal) f.legal;
+  places = λ q below. rw (plan, journal, places q) (f.places q (rw change.size at below));
+  within = λ q below. rw (plan, places q) (f.within q (rw change.size at below));
+  counted = rw (journal, change.places) f.counted;
+}
+  where
+    places : (q : ℕ) → (processor_at h q).place ≡ (processor_at g q).place
+    places q = elim (cases_eq q cpu) [
+      | inl z ↦ rw (z, change.here) refl
+      | inr n ↦ ap (λ (p : Processor). p.place) (change.others q n)
+    ]
+
+-- what one step of the tables leaves and changes: one page's info and value, one processor's phase
+pub record TableStep (g : GuestState) (v : StorageView) (d : DiskView) (h : GuestState) (w : StorageView) (e : DiskView) (cpu page : ℕ) (phase : Phase) (info : PageInfo) : Type 0 where
+  pub back : GivenBack page v d w e
+  pub below : page < v.pages
+  pub plan : h.plan ≡ g.plan
+  pub journal : h.journal ≡ g.journal
+  pub files : h.parts.cache.files ≡ g.parts.cache.files
+  pub swap : h.parts.cache.swap ≡ g.parts.cache.swap
+  pub slots : h.parts.cache.slots ≡ g.parts.cache.slots
+  pub index : length h.parts.cache.index ≡ length g.parts.cache.index
+  pub info_change : InfoChange g.parts.pages h.parts.pages page info
+  pub phase_change : PhaseChange g.processors h.processors cpu phase
+  pub pins : PinsStand h.parts
+  pub fits : PageFits g.parts.cache d info (w.values page)
+
+-- so many discards are handled in the step
+pub record FaultStep (more : ℕ) (g : GuestState) (v : StorageView) (h : GuestState) (w : StorageView) (page : ℕ) : Type 0 where
+  pub handled : h.parts.faults ≤ g.parts.faults + more
+  pub counted : (v.values page).count + one_if_lost (w.values page) + more ≤ (w.values page).count + one_if_lost (v.values page)
+
+FaultsFit-step : (g h : GuestState) (v w : StorageView) (more page : ℕ) → FaultsFit g.parts v → w.pages ≡ v.pages → page < v.pages → ((i : ℕ) → i ≢ page → MayBecome (v.values i) (w.values i)) → FaultStep more g v h w page → FaultsFit h.parts w
+FaultsFit-step g h v w more page f pages below others step =
+    let sums = sum_below-more (λ i. (v.values i).count) (λ i. one_if_lost (w.values i)) (λ i. (w.values i).count) (λ i. one_if_lost (v.values i)) more page v.pages below (λ i _ n. may-faults (v.values i) (w.values i) (others i n)) step.counted in
+    rw pages (omega (arith, sums, step.handled, f))
+
+-- what fit of the guest before gives of its pages, and what the step keeps of their bytes
+pub step-same : (state : FlatState) (g : GuestState) (v : StorageView) (d : DiskView) (h : GuestState) (w : StorageView) (e : DiskView) (cpu page : ℕ) (phase : Phase) (info : PageInfo) → FitAt state g v d
+    → TableStep g v d h w e cpu page phase info → SameCurrent g.parts v d h.parts w e page
+step-same state g v d h w e cpu page phase info f step = record {
+  fits = EachPageFits-from g.parts v d (infos-pages g v d f.sizes) f.pins f.hints f.contents;
+  pages = f.pages;
+  files = step.files;
+  swap = step.swap;
+  blocks = step.back.blocks;
+  infos = step.info_change.others;
+  values = step.back.keeps.others;
+}
+
+pub FitAt-step : (state later : FlatState) (g : GuestState) (v : StorageView) (d : DiskView) (h : GuestState) (w : StorageView) (e : DiskView) (cpu page more : ℕ) (phase : Phase) (info : PageInfo) → FitAt state g v d
+    → TableStep g v d h w e cpu page phase info → PagesFit h.parts → SlotsFit later h.parts → EntriesFit h.parts → LocksFit h → FlatFit later h w e → FaultStep more g v h w page → FitAt later h w e
+FitAt-step state later g v d h w e cpu page more phase info f step pages slots entries locks flat faults = record {
+  sizes = record {
+    range = rw step.plan f.sizes.range;
+    built = rw step.plan f.sizes.built;
+    infos = rw (step.plan, step.info_change.size) f.sizes.infos;
+    pages = rw (step.plan, step.back.keeps.pages) f.sizes.pages;
+    processors = rw (step.plan, step.phase_change.size) f.sizes.processors;
+    files = rw (step.plan, step.files) f.sizes.files;
+    swap = rw (step.plan, step.swap) f.sizes.swap;
+    slots = rw step.slots f.sizes.slots;
+    index = rw (step.index, step.files, step.slots) f.sizes.index;
+    blocks = rw (step.plan, step.back.count) f.sizes.blocks;
+  };
+  pages = pages;
+  slots = slots;
+  entries = entries;
+  pins = PinsFit-from h.parts w e step.pins fits;
+  locks = locks;
+  hints = HintsFit-from h.parts w e step.back.held fits;
+  contents = ContentsFit-from h.parts w e (step.back.keeps.tells ∙ f.contents.tells) f.contents.told.0 (step.back.blocks ∙ f.contents.told.1) (rw (step.back.count, step.back.blocks) f.contents.blocks) fits;
+  flat = flat;
+  journal = JournalFit-phase g h cpu phase f.journal step.plan step.journal step.phase_change;
+  faults = FaultsFit-step g h v w more page f.faults step.back.keeps.pages step.below step.back.keeps.others faults;
+}
+  where
+    size : length g.parts.pages.infos ≡ v.pages
+    size = infos-pages g v d f.sizes
+
+    before : EachPageFits g.parts v d
+    before = EachPageFits-from g.parts v d size f.pins f.hints f.contents
+
+    fits : EachPageFits h.parts w e
+    fits = record {
+      size = step.info_change.size ∙ size ∙ sym step.back.keeps.pages;
+      each = λ i lt. elim (cases_eq i page) [
+        | inl z ↦ rw (z, step.info_change.here) (PageFits-same g.parts.cache h.parts.cache d e info (w.values page) step.files step.swap step.back.blocks step.fits)
+        | inr n ↦
+            rw (step.info_change.others i n) (PageFits-same g.parts.cache h.parts.cache d e (info_at g.parts.pages i) (w.values i) step.files step.swap step.back.blocks
+            (PageFits-may g.parts.cache d (info_at g.parts.pages i) (v.values i) (w.values i) (before.each i (rw step.back.keeps.pages at lt)) (step.back.keeps.others i n)))
+      ];
+    }

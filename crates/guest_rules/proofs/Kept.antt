@@ -1,0 +1,20 @@
+-- Each part of fit is kept by one change of the tables: of one page's info, one place of the index, one entry, one slot,
+-- one processor's phase (`Changes`). A part has a file of its own.
+pub mod Faults
+pub mod Changes
+pub mod PageFits
+pub mod Currents
+pub mod CurrentsKept
+pub mod EntryLaws
+pub mod PinLaws
+pub mod SlotsKept
+pub mod EntriesKept
+pub mod PagesKept
+pub mod LocksKept
+pub mod RowChanges
+pub mod SyncTables
+pub mod PinsKept
+pub mod Unpinned
+pub mod Unshown
+pub mod Tables
+pub mod WholePages

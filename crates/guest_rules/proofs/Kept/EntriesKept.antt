@@ -1,0 +1,154 @@
+-- The entries stay fit: where one page's info changes, where a page is freed, where an entry is set, and where a file is mapped.
+use Rattle.std.proofs.Common.{◌≡◌, ◌≢◌, ◌<◌, ◌+◌, ◌*◌, ℕ, Bool, true, false, length, slice_index_or, count_by, Option, Some, None, ap, sym, ◌∙◌, inl, inr, subst, arith}
+use Rattle.std.proofs.lemmas.Bool.{cases_eq}
+use Rattle.cmm_types.specs.declared.page.Tag.{Tag}
+use Rattle.cmm_types.specs.declared.command.TheConstants.{MAX_MAPPING_PAGES}
+use Rattle.cmm_types.specs.declared.plan.TheConstants.{MAX_MAPPING_SLOTS}
+use Rattle.guest_pages.specs.declared.info.PageInfo.{PageInfo}
+use Rattle.guest_pages.specs.PagesView.{free_info, info_at}
+use Rattle.guest_maps.specs.declared.slot.Pte.{Pte}
+use Rattle.guest_maps.specs.declared.slot.Slot.{Slot}
+use Rattle.guest_maps.specs.declared.slot.Shown.{Shown}
+use Rattle.guest_maps.specs.MapsView.{MapsView, slot_at, entry_at, place_at, tag_in, tag_at, has_page, stores_to, with_entry, without_entries_of, with_slot, with_mapping}
+use Rattle.guest_maps.specs.MapsLaws.{place_exact, slots-with_entry, entry_at-with_entry_other, slots-without_entries_of, writers_showing-without_same, writers_showing-without_other, slot_at-with_mapping_other}
+use Rattle.guest_rules.specs.declared.parts.Parts.{Parts}
+use Rattle.guest_rules.specs.Rows.{one_if}
+use Rattle.guest_rules.specs.Turns.{slot_writable}
+use Rattle.guest_rules.specs.Fit.{IsEntry, EntriesFit}
+use Rattle.guest_rules.proofs.Cases.TurnCases.{CanBeSet}
+use Rattle.guest_rules.proofs.Kept.Changes.{InfoChange}
+use Rattle.guest_rules.proofs.Kept.EntryLaws.{place-tagged, entry-without, entry_at-set, writers-with_entry_same, writers-with_entry_other}
+
+-- a page that is up to date under a tag is so still
+abbrev pub StillShown : Parts → Parts → ℕ → Type 0
+StillShown old new page =
+    (tag : Tag) → (info_at old.pages page).tag ≡ Some tag → (info_at old.pages page).uptodate ≡ true → ((info_at new.pages page).tag ≡ Some tag) × ((info_at new.pages page).uptodate ≡ true)
+
+pub IsEntry-kept : (old new : Parts) (slot index : ℕ) (pte : Pte) → IsEntry old slot index pte → slot_at new.maps slot ≡ slot_at old.maps slot → StillShown old new pte.page → IsEntry new slot index pte
+IsEntry-kept old new slot index pte k same shows =
+    let now = shows k.tag k.tagged k.uptodate in
+    record {
+      place = ap (λ (o : Option Slot). has_page o index) same ∙ k.place;
+      tag = k.tag;
+      mapped = ap (λ (o : Option Slot). tag_in o slot index) same ∙ k.mapped;
+      tagged = now.0;
+      uptodate = now.1;
+      writable = λ w. ap slot_writable same ∙ k.writable w;
+    }
+
+-- of the other pages nothing changed
+still_shown : (old new : Parts) (page : ℕ) (info : PageInfo) → InfoChange old.pages new.pages page info
+    → ((tag : Tag) → (info_at old.pages page).tag ≡ Some tag → (info_at old.pages page).uptodate ≡ true → (info.tag ≡ Some tag) × (info.uptodate ≡ true)) → (i : ℕ) → StillShown old new i
+still_shown old new page info change shows i tag t u = elim (cases_eq i page) [
+  | inl z ↦ let now = shows tag (rw z at t) (rw z at u) in rw (z, change.here) now
+  | inr n ↦ rw (change.others i n) (t, u)
+]
+
+-- one page's info is another, and what shows it stays
+pub EntriesFit-info : (old new : Parts) (page : ℕ) (info : PageInfo) → EntriesFit old → InfoChange old.pages new.pages page info → new.maps ≡ old.maps
+    → ((tag : Tag) → (info_at old.pages page).tag ≡ Some tag → (info_at old.pages page).uptodate ≡ true → (info.tag ≡ Some tag) × (info.uptodate ≡ true)) → info.writers ≡ (info_at old.pages page).writers → EntriesFit new
+EntriesFit-info old new page info f change maps shows writers = record {
+  entry = λ slot index pte lt e.
+      IsEntry-kept old new slot index pte (f.entry slot index pte lt (rw maps at e)) (ap (λ (m : MapsView). slot_at m slot) maps) (still_shown old new page info change shows pte.page);
+  writers = λ i. elim (cases_eq i page) [
+    | inl z ↦ rw (z, change.here, maps) (writers ∙ f.writers page)
+    | inr n ↦ rw (change.others i n, maps) (f.writers i)
+  ];
+}
+
+-- the same where other places are pinned
+pub EntriesFit-pinned : (old new : Parts) (page : ℕ) (info : PageInfo) → EntriesFit old → InfoChange old.pages new.pages page info → new.maps.slots ≡ old.maps.slots → new.maps.entries ≡ old.maps.entries
+    → ((tag : Tag) → (info_at old.pages page).tag ≡ Some tag → (info_at old.pages page).uptodate ≡ true → (info.tag ≡ Some tag) × (info.uptodate ≡ true)) → info.writers ≡ (info_at old.pages page).writers → EntriesFit new
+EntriesFit-pinned old new page info f change slots entries shows writers = record {
+  entry = λ slot index pte lt e.
+      IsEntry-kept old new slot index pte (f.entry slot index pte lt (ap (λ xs. slice_index_or xs (place_at slot index) None) (sym entries) ∙ e)) (ap (λ xs. slice_index_or xs slot None) slots)
+      (still_shown old new page info change shows pte.page);
+  writers = λ i. elim (cases_eq i page) [
+    | inl z ↦ rw (z, change.here) (writers ∙ f.writers page ∙ ap (λ xs. count_by (stores_to page) xs) (sym entries))
+    | inr n ↦ rw (change.others i n) (f.writers i ∙ ap (λ xs. count_by (stores_to i) xs) (sym entries))
+  ];
+}
+
+-- a page is free, and no entry shows it any more
+pub EntriesFit-freed : (old new : Parts) (page : ℕ) → EntriesFit old → InfoChange old.pages new.pages page free_info → new.maps ≡ without_entries_of old.maps page → EntriesFit new
+EntriesFit-freed old new page f change maps = record {
+  entry = λ slot index pte lt e.
+      let k = entry-without old.maps page slot index pte (rw maps at e) in
+      IsEntry-kept old new slot index pte (f.entry slot index pte lt k.was) (ap (λ (m : MapsView). slot_at m slot) maps ∙ ap (λ xs. slot_at (record old.maps { slots = xs }) slot) (slots-without_entries_of old.maps page))
+      (λ tag t u. rw (change.others pte.page k.other) (t, u));
+  writers = λ i. elim (cases_eq i page) [
+    | inl z ↦ rw (z, change.here, maps) (sym (writers_showing-without_same old.maps page))
+    | inr n ↦ rw (change.others i n, maps) (f.writers i ∙ sym (writers_showing-without_other old.maps page i n))
+  ];
+}
+
+-- an entry that can be set so
+pub record NewEntry (old : Parts) (slot index page : ℕ) (writes : Bool) (tag : Tag) : Type 0 where
+  pub slot_below : slot < MAX_MAPPING_SLOTS
+  pub index_below : index < MAX_MAPPING_PAGES
+  pub size : length old.maps.entries ≡ MAX_MAPPING_SLOTS * MAX_MAPPING_PAGES
+  pub mapped : tag_at old.maps slot index ≡ Some tag
+  pub tagged : (info_at old.pages page).tag ≡ Some tag
+  pub uptodate : (info_at old.pages page).uptodate ≡ true
+  pub writable : writes ≡ true → slot_writable (slot_at old.maps slot) ≡ true
+  pub can : CanBeSet (entry_at old.maps slot index) writes
+
+-- an entry shows the page
+pub EntriesFit-mapped : (old new : Parts) (slot index page : ℕ) (writes : Bool) (tag : Tag) → EntriesFit old → NewEntry old slot index page writes tag
+    → InfoChange old.pages new.pages page (record (info_at old.pages page) { writers = (info_at old.pages page).writers + one_if writes })
+    → new.maps ≡ with_entry old.maps slot index (Some (record { page = page; writable = writes })) → EntriesFit new
+EntriesFit-mapped old new slot index page writes tag f k change maps = record {
+  entry = λ s i pte lt e. elim (cases_eq s slot) [
+    | inl z ↦ elim (cases_eq i index) [
+      | inl y ↦
+          let is : Some one ≡ Some pte = sym (entry_at-set old.maps slot index (Some one) below) ∙ ap (λ m. entry_at m slot index) (sym maps) ∙ (λ p. entry_at new.maps (sym z p) (sym y p)) ∙ e in
+          subst (λ q. IsEntry new s i q) (some_exact is) (rw (z, y) mine)
+      | inr m ↦ left s i pte lt (λ q. m (place_exact s slot i index lt k.index_below q).1) e
+    ]
+    | inr m ↦ left s i pte lt (λ q. m (place_exact s slot i index lt k.index_below q).0) e
+  ];
+  writers = λ i. elim (cases_eq i page) [
+    | inl z ↦ rw (z, change.here, maps) (ap (λ n. n + one_if writes) (f.writers page) ∙ sym (writers-with_entry_same old.maps slot index page writes below k.can))
+    | inr n ↦ rw (change.others i n, maps) (f.writers i ∙ sym (writers-with_entry_other old.maps slot index page i writes below k.can n))
+  ];
+}
+  where
+    one : Pte
+    one = record { page = page; writable = writes }
+
+    some_exact : {a b : Pte} → Some a ≡ Some b → a ≡ b
+    some_exact e = cc
+
+    below : place_at slot index < length old.maps.entries
+    below = rw k.size (omega (arith, k.slot_below, k.index_below))
+
+    same : (s : ℕ) → slot_at new.maps s ≡ slot_at old.maps s
+    same s = ap (λ (m : MapsView). slot_at m s) maps ∙ ap (λ xs. slot_at (record old.maps { slots = xs }) s) (slots-with_entry old.maps slot index (Some one))
+
+    shows : (i : ℕ) → StillShown old new i
+    shows = still_shown old new page (record (info_at old.pages page) { writers = (info_at old.pages page).writers + one_if writes }) change (λ t a u. (a, u))
+
+    mine : IsEntry new slot index one
+    mine = record {
+      place = ap (λ (o : Option Slot). has_page o index) (same slot) ∙ place-tagged old.maps slot index tag k.mapped;
+      tag = tag;
+      mapped = ap (λ (o : Option Slot). tag_in o slot index) (same slot) ∙ k.mapped;
+      tagged = (shows page tag k.tagged k.uptodate).0;
+      uptodate = (shows page tag k.tagged k.uptodate).1;
+      writable = λ w. ap slot_writable (same slot) ∙ k.writable w;
+    }
+
+    left : (s i : ℕ) (pte : Pte) → i < MAX_MAPPING_PAGES → place_at s i ≢ place_at slot index → entry_at new.maps s i ≡ Some pte → IsEntry new s i pte
+    left s i pte lt apart e =
+        IsEntry-kept old new s i pte (f.entry s i pte lt (sym (entry_at-with_entry_other old.maps slot index s i (Some one) apart) ∙ ap (λ m. entry_at m s i) (sym maps) ∙ e)) (same s) (shows pte.page)
+
+-- a slot that was free has a mapping
+pub EntriesFit-new : (old new : Parts) (slot process number count : ℕ) (shown : Shown) → EntriesFit old → slot_at old.maps slot ≡ None → new ≡ record old { maps = with_mapping old.maps slot process number shown count } → EntriesFit new
+unfolding with_mapping with_slot
+EntriesFit-new old new slot process number count shown f free is = rw is (record {
+  entry = λ s i pte lt e.
+      let was = f.entry s i pte lt e in
+      let n : s ≢ slot = λ z. let bad : false ≡ true = ap (λ (o : Option Slot). has_page o i) (sym free) ∙ ap (λ q. has_page (slot_at old.maps q) i) (sym z) ∙ was.place in cc in
+      IsEntry-kept old _ s i pte was (slot_at-with_mapping_other old.maps slot s process number shown count n) (λ tag t u. (t, u));
+  writers = f.writers;
+})

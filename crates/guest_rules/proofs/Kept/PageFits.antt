@@ -1,0 +1,128 @@
+-- What fit says of one page, its info and its value; what the host may do leaves it.
+use Rattle.std.proofs.Common.{◌≡◌, ◌<◌, ℕ, true, false, List, length, Some, None, refl, ap, sym, ◌∙◌, inl, inr, arith, subst}
+use Rattle.std.proofs.lemmas.List.{get_or_past}
+use Rattle.std.proofs.lemmas.Bool.{cases_lt}
+use Rattle.cmm_types.specs.declared.page.Usage.TheVariants.{U, V}
+use Rattle.cmm_types.specs.declared.page.Tag.{Tag}
+use Rattle.cmm_types.specs.declared.page.Tag.TheVariants.{File, Anon}
+use Rattle.cmm_io.specs.DiskView.{DiskView, AreBlocks}
+use Rattle.essa_state.specs.PageValue.{PageValue, Bytes, IsValue, MayBecome, StandsWith, is_lost, is_blank}
+use Rattle.essa_state.specs.PageValueLaws.{MayBecome-is_value}
+use Rattle.cmm_storage.specs.StorageView.{StorageView}
+use Rattle.guest_pages.specs.declared.info.PageInfo.{PageInfo}
+use Rattle.guest_pages.specs.PagesView.{PagesView, free_info, info_at}
+use Rattle.std.specs.List.{position}
+use Rattle.guest_cache.specs.CacheView.{CacheView, holds_page, swap_block}
+use Rattle.guest_rules.specs.declared.parts.Parts.{Parts}
+use Rattle.guest_rules.specs.Hint.{hint}
+use Rattle.guest_rules.specs.Fit.{PinsFit, HintsFit, ContentsFit, backed, backing}
+use Rattle.guest_rules.proofs.Rows.ValueLaws.{hint-free, hint-tagged, may-usage, may-unchanged}
+
+pub record PageFits (cache : CacheView) (d : DiskView) (info : PageInfo) (value : PageValue) : Type 0 where
+  pub of_files : (tag : Tag) → info.tag ≡ Some tag → (file : ℕ) × (index : ℕ) × (tag ≡ File file index)
+  pub is_value : IsValue value
+  pub hinted : value.usage ≡ hint info
+  pub volatile : value.usage ≡ V → value.changed ≡ false
+  pub not_blank : (tag : Tag) → info.tag ≡ Some tag → info.uptodate ≡ true → is_blank value.contents ≡ false
+  pub same : (tag : Tag) → info.tag ≡ Some tag → info.uptodate ≡ true → info.dirty ≡ false → value.changed ≡ false → is_lost value.contents ≡ false
+      → value.contents ≡ Bytes (backing cache d tag)
+
+-- the host may move the page
+pub PageFits-may : (cache : CacheView) (d : DiskView) (info : PageInfo) (x y : PageValue) → PageFits cache d info x → MayBecome x y → PageFits cache d info y
+PageFits-may cache d info x y s may = record {
+  of_files = s.of_files;
+  is_value = MayBecome-is_value x y s.is_value may;
+  hinted = may-usage x y may ∙ s.hinted;
+  volatile = λ u. may-unchanged x y may (s.volatile (sym (may-usage x y may) ∙ u));
+  not_blank = λ tag t u. blank tag t u may;
+  same = λ tag t u clean unchanged. bytes tag t u clean unchanged may;
+}
+  where
+    tagged : (tag : Tag) → info.tag ≡ Some tag → x.usage ≡ U → ⊥
+    tagged tag t u = hint-tagged info tag t (sym s.hinted ∙ u)
+
+    blank : (tag : Tag) → info.tag ≡ Some tag → info.uptodate ≡ true → MayBecome x y → is_blank y.contents ≡ false
+    blank tag t u (inl e) = ap (λ (z : PageValue). is_blank z.contents) e ∙ s.not_blank tag t u
+    blank tag t u (inr (inl lost)) = ap (λ (z : PageValue). is_blank z.contents) lost.value
+    blank tag t u (inr (inr other)) = absurd (tagged tag t other.unused)
+
+    bytes : (tag : Tag) → info.tag ≡ Some tag → info.uptodate ≡ true → info.dirty ≡ false → y.changed ≡ false → MayBecome x y → is_lost y.contents ≡ false → y.contents ≡ Bytes (backing cache d tag)
+    bytes tag t u clean unchanged (inl e) there =
+        ap (λ (z : PageValue). z.contents) e ∙ s.same tag t u clean (ap (λ (z : PageValue). z.changed) (sym e) ∙ unchanged) (ap (λ (z : PageValue). is_lost z.contents) (sym e) ∙ there)
+    bytes tag t u clean unchanged (inr (inl lost)) there = let bad : true ≡ false = ap (λ (z : PageValue). is_lost z.contents) (sym lost.value) ∙ there in absurd cc
+    bytes tag t u clean unchanged (inr (inr other)) there = absurd (tagged tag t other.unused)
+
+-- what backs a tag depends on the files, the swap slots and the blocks
+pub backing-same : (old new : CacheView) (d e : DiskView) (tag : Tag) → new.files ≡ old.files → new.swap ≡ old.swap → e.blocks ≡ d.blocks → backing new e tag ≡ backing old d tag
+backing-same old new d e (File file index) files swap blocks = rw (files, blocks) refl
+backing-same old new d e (Anon slot index) files swap blocks = λ i. backed (blocks i) (swap_block (files i) (position (holds_page slot index) (swap i)))
+
+pub PageFits-same : (old new : CacheView) (d e : DiskView) (info : PageInfo) (x : PageValue) → new.files ≡ old.files → new.swap ≡ old.swap → e.blocks ≡ d.blocks → PageFits old d info x → PageFits new e info x
+PageFits-same old new d e info x files swap blocks s = record {
+  of_files = s.of_files;
+  is_value = s.is_value;
+  hinted = s.hinted;
+  volatile = s.volatile;
+  not_blank = s.not_blank;
+  same = λ tag t u clean unchanged there. s.same tag t u clean unchanged there ∙ ap (λ b. Bytes b) (sym (backing-same old new d e tag files swap blocks));
+}
+
+-- a free page
+pub PageFits-free : (cache : CacheView) (d : DiskView) (x : PageValue) → x.usage ≡ U → x.changed ≡ false → StandsWith x.contents U false → PageFits cache d free_info x
+PageFits-free cache d x usage changed stands = record {
+  of_files = λ tag t. absurd cc;
+  is_value = rw (usage, changed) stands;
+  hinted = usage ∙ sym hint-free;
+  volatile = λ v. changed;
+  not_blank = λ tag t u. absurd cc;
+  same = λ tag t u clean unchanged there. absurd cc;
+}
+
+-- fit of each page
+pub record EachPageFits (parts : Parts) (v : StorageView) (d : DiskView) : Type 0 where
+  pub size : length parts.pages.infos ≡ v.pages
+  pub each : (page : ℕ) → page < v.pages → PageFits parts.cache d (info_at parts.pages page) (v.values page)
+
+pub EachPageFits-from : (parts : Parts) (v : StorageView) (d : DiskView) → length parts.pages.infos ≡ v.pages → PinsFit parts → HintsFit parts v → ContentsFit parts v d → EachPageFits parts v d
+EachPageFits-from parts v d size pins hints contents = record {
+  size = size;
+  each = λ page below. record {
+    of_files = pins.of_files page;
+    is_value = hints.values page below;
+    hinted = hints.hints page below;
+    volatile = hints.volatile page below;
+    not_blank = λ tag t u. contents.not_blank page tag below t u;
+    same = λ tag t u clean unchanged there. contents.same page tag below t u clean unchanged there;
+  };
+}
+
+-- what holds of the free info and of each page below the count holds of every page
+pub every_info : (Fits : PageInfo → Type 0) (pages : PagesView) (count : ℕ) → length pages.infos ≡ count → Fits free_info → ((page : ℕ) → page < count → Fits (info_at pages page)) → (page : ℕ) → Fits (info_at pages page)
+every_info Fits pages count size free each page = elim (cases_lt page count) [
+  | inl below ↦ each page below
+  | inr past ↦ subst Fits (sym (get_or_past pages.infos page free_info (omega (arith, size)))) free
+]
+
+pub HintsFit-from : (parts : Parts) (v : StorageView) (d : DiskView) → v.held ≡ None → EachPageFits parts v d → HintsFit parts v
+HintsFit-from parts v d none fits = record {
+  none_held = none;
+  values = λ page below. (fits.each page below).is_value;
+  hints = λ page below. (fits.each page below).hinted;
+  volatile = λ page below. (fits.each page below).volatile;
+}
+
+pub ContentsFit-from : (parts : Parts) (v : StorageView) (d : DiskView) → v.tells ≡ true → (blocks : List (List ℕ)) → d.blocks ≡ Some blocks → AreBlocks d.count d.blocks → EachPageFits parts v d → ContentsFit parts v d
+ContentsFit-from parts v d tells blocks told are fits = record {
+  tells = tells;
+  told = (blocks, told);
+  blocks = are;
+  not_blank = λ page tag below t u. (fits.each page below).not_blank tag t u;
+  same = λ page tag below t u clean unchanged there. (fits.each page below).same tag t u clean unchanged there;
+}
+
+-- a page with a tag is one of the guest's
+pub tagged-below : (pages : PagesView) (page : ℕ) (tag : Tag) → (info_at pages page).tag ≡ Some tag → page < length pages.infos
+tagged-below pages page tag tagged = elim (cases_lt page (length pages.infos)) [
+  | inl below ↦ below
+  | inr past ↦ let bad : None ≡ Some tag = ap (λ (i : PageInfo). i.tag) (sym (get_or_past pages.infos page free_info past)) ∙ tagged in absurd cc
+]

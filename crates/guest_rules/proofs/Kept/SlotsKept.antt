@@ -1,0 +1,295 @@
+-- The mapping slots stay fit: where they are the same, where a file is mapped in a free one, and where a page is pinned or unpinned.
+use Rattle.std.proofs.Common.{◌≡◌, ◌≢◌, ◌<◌, ◌≤◌, ◌+◌, ℕ, Bool, true, false, cond, List, length, slice_index_or, Option, Some, None, is_some, refl, ap, sym, ◌∙◌, inl, inr, position, nat_lt, arith}
+use Rattle.std.specs.FinMap as finite
+use Rattle.std.proofs.lemmas.Bool.{cases_eq, cases_lt, false_from_ne_true, ltb-true}
+use Rattle.std.proofs.lemmas.Bool.Decides.{nat_tests}
+use Rattle.std.proofs.lemmas.List.{get_or_past}
+use Rattle.cmm_types.specs.declared.command.TheConstants.{MAX_MAPPING_PAGES}
+use Rattle.cmm_flat.specs.declared.mapping.Place.{Place}
+use Rattle.cmm_flat.specs.declared.mapping.Mapping.{Mapping}
+use Rattle.cmm_flat.specs.declared.mapping.Shown.TheVariants.{OfFile as FlatFile}
+use Rattle.cmm_flat.specs.Mapping.{with_pin}
+use Rattle.cmm_flat.specs.PlaceLaws.{places_total}
+use Rattle.cmm_flat.specs.State.{FlatState, mapping_at, place_of}
+use Rattle.cmm_flat.specs.Flat.{none_pinned, with_mapping as flat_with_mapping}
+use Rattle.cmm_flat.specs.StepLaws.{mapping_at-with_mapping, mapping_at-with_mapping_other}
+use Rattle.guest_maps.specs.declared.slot.Slot.{Slot}
+use Rattle.guest_maps.specs.declared.slot.Shown.{Shown}
+use Rattle.guest_maps.specs.declared.slot.Shown.TheVariants.{File as OfFile}
+use Rattle.guest_maps.specs.MapsView.{MapsView, IsPlace, slot_at, find_slot, free_slot, live_slots, is_mapping, has_page, place_at, pinned_at, new_mapping, with_mapping}
+use Rattle.guest_maps.specs.FirstPlace.{position_only}
+use Rattle.guest_maps.specs.SlotLaws.{own_mapping}
+use Rattle.guest_maps.specs.MapsLaws.{IsPlace-from, free_slot-is, find_slot-is, find_slot-none, length-with_mapping, entries-with_mapping, pinned-with_mapping, pages-with_mapping, slot_at-with_mapping_same, slot_at-with_mapping_other, find_slot-with_mapping_other, live_slots-with_mapping}
+use Rattle.guest_rules.specs.declared.parts.Parts.{Parts}
+use Rattle.guest_rules.specs.Fit.{SlotsFit, pins_of, flat_shown, flat_slot, flat_mapping, flat_found}
+use Rattle.guest_rules.proofs.Cases.MapsFound.{found_slot}
+use Rattle.guest_rules.proofs.Cases.Placed.{PinPlace}
+use Rattle.guest_rules.proofs.Kept.PinLaws.{PinChange, pins_of-same, pins_of-none, pins_of-set}
+
+is_below : (index count : ℕ) → index < count → nat_lt index count ≡ true
+is_below index count below = grind (arith, nat_tests)
+
+-- a slot with a mapping is one
+pub slot-below : (maps : MapsView) (slot : ℕ) (mapping : Slot) → slot_at maps slot ≡ Some mapping → slot < length maps.slots
+slot-below maps slot mapping at = elim (cases_lt slot (length maps.slots)) [
+  | inl below ↦ below
+  | inr past ↦ let bad : None ≡ Some mapping = sym (get_or_past maps.slots slot None past) ∙ at in absurd cc
+]
+
+-- the same mapping in a slot, with the same pages pinned, is the same for the flat machine
+flat_mapping-same : (old new : MapsView) (slot : ℕ) → slot_at new slot ≡ slot_at old slot → ((index : ℕ) → has_page (slot_at old slot) index ≡ true → pinned_at new slot index ≡ pinned_at old slot index)
+    → flat_mapping new slot (slot_at new slot) ≡ flat_mapping old slot (slot_at old slot)
+flat_mapping-same old new slot same pins = ap (flat_mapping new slot) same ∙ of (slot_at old slot) pins
+  where
+    of : (o : Option Slot) → ((index : ℕ) → has_page o index ≡ true → pinned_at new slot index ≡ pinned_at old slot index) → flat_mapping new slot o ≡ flat_mapping old slot o
+    of None each = refl
+    of (Some mapping) each =
+        ap (λ q. let out : Option Mapping = Some (record { shown = flat_shown mapping.shown mapping.count; pins = q }) in out)
+        (pins_of-same old new slot mapping.count (λ index below. each index (is_below index mapping.count below)))
+
+-- the slots are the same, and so are what is pinned, the files and the flat mappings
+pub SlotsFit-kept : (state later : FlatState) (old new : Parts) → SlotsFit state old → later.mappings ≡ state.mappings → new.maps.slots ≡ old.maps.slots → length new.maps.entries ≡ length old.maps.entries
+    → new.maps.pinned ≡ old.maps.pinned → new.maps.pages ≡ old.maps.pages → length new.pages.infos ≡ length old.pages.infos → new.cache.files ≡ old.cache.files → SlotsFit later new
+SlotsFit-kept state later old new f mappings slots entries pinned pages infos files = record {
+  slots = rw slots f.slots;
+  entries = entries ∙ f.entries;
+  pinned = ap length pinned ∙ f.pinned;
+  pages = pages ∙ f.pages ∙ sym infos;
+  live = λ slot mapping e. f.live slot mapping (rw slots at e);
+  apart = λ slot other mapping another e e' process number. f.apart slot other mapping another (rw slots at e) (rw slots at e') process number;
+  flat = λ process number. ap (λ m. finite.get m (place_of process number)) mappings ∙ f.flat process number ∙ sym (found process number);
+  counted = ap (λ m. finite.len m) mappings ∙ f.counted ∙ ap (λ xs. of_live xs) (sym slots);
+  shown = λ slot mapping e. let k = f.shown slot mapping (rw slots at e) in (k.0, rw files k.1);
+  placed = λ slot index below e.
+      ap (λ xs. has_page (slice_index_or xs slot None) index) slots ∙ f.placed slot index below (ap (λ xs. slice_index_or xs (place_at slot index) false) (sym pinned) ∙ e);
+}
+  where
+    of_live : List (Option Slot) → ℕ
+    of_live xs = live_slots (record old.maps { slots = xs })
+
+    with_found : (process number : ℕ) (o : Option ℕ) → flat_found new.maps o ≡ flat_found old.maps o
+    with_found process number None = refl
+    with_found process number (Some slot) = flat_mapping-same old.maps new.maps slot (ap (λ xs. slice_index_or xs slot None) slots) (λ index below. ap (λ xs. slice_index_or xs (place_at slot index) false) pinned)
+
+    found : (process number : ℕ) → flat_found new.maps (find_slot new.maps process number) ≡ flat_found old.maps (find_slot old.maps process number)
+    found process number = ap (λ xs. flat_found new.maps (position (is_mapping process number) xs)) slots ∙ with_found process number (find_slot old.maps process number)
+
+-- a mapping of a file in a free slot
+pub record NewMapping (old : Parts) (slot process number file first count : ℕ) : Type 0 where
+  pub free : free_slot old.maps ≡ Some slot
+  pub none : find_slot old.maps process number ≡ None
+  pub few : count ≤ MAX_MAPPING_PAGES
+  pub file_below : file < length old.cache.files
+  pub within : first + count ≤ slice_index_or old.cache.files file 0
+
+abbrev new_file : (file first : ℕ) → Bool → ℕ → Mapping
+new_file file first writable count = record { shown = FlatFile file first writable; pins = none_pinned count }
+
+pub SlotsFit-mapped : (state : FlatState) (old new : Parts) (slot process number file first count : ℕ) (writable : Bool) → SlotsFit state old → NewMapping old slot process number file first count
+    → new ≡ record old { maps = with_mapping old.maps slot process number (OfFile file first writable) count } → SlotsFit (flat_with_mapping state process number (new_file file first writable count)) new
+SlotsFit-mapped state old new slot process number file first count writable f k is = rw is (record {
+  slots = length-with_mapping old.maps slot process number shown count ∙ f.slots;
+  entries = ap length (entries-with_mapping old.maps slot process number shown count) ∙ f.entries;
+  pinned = ap length pinned ∙ f.pinned;
+  pages = pages-with_mapping old.maps slot process number shown count ∙ f.pages;
+  live = λ s mapping e. elim (cases_eq s slot) [
+    | inl z ↦ ap (λ (m : Slot). m.live) (sym (here s mapping z e))
+    | inr n ↦ f.live s mapping (sym (there s n) ∙ e)
+  ];
+  apart = λ s o mapping another e e' p q. elim (cases_eq s slot) [
+    | inl z ↦ elim (cases_eq o slot) [
+      | inl y ↦ z ∙ sym y
+      | inr m ↦
+          let its = here s mapping z e in
+          absurd (taken o another (sym (there o m) ∙ e') (sym p ∙ ap (λ (x : Slot). x.process) (sym its)) (sym q ∙ ap (λ (x : Slot). x.map) (sym its)))
+    ]
+    | inr n ↦ elim (cases_eq o slot) [
+      | inl y ↦
+          let its = here o another y e' in
+          absurd (taken s mapping (sym (there s n) ∙ e) (p ∙ ap (λ (x : Slot). x.process) (sym its)) (q ∙ ap (λ (x : Slot). x.map) (sym its)))
+      | inr m ↦ f.apart s o mapping another (sym (there s n) ∙ e) (sym (there o m) ∙ e') p q
+    ]
+  ];
+  flat = λ p n. elim (cases_eq p process) [
+    | inl z ↦ elim (cases_eq n number) [
+      | inl y ↦
+          rw (z, y) (mapping_at-with_mapping state process number (new_file file first writable count)
+          ∙ sym (ap (flat_found now) found_here ∙ ap (flat_mapping now slot) (slot_at-with_mapping_same old.maps slot process number shown count below) ∙ ap new_pins none_pinned_yet))
+      | inr m ↦ other p n (λ q r. m (sym r))
+    ]
+    | inr m ↦ other p n (λ q r. m (sym q))
+  ];
+  counted = len_more ∙ ap (λ n. n + 1) f.counted ∙ sym (live_slots-with_mapping old.maps slot process number shown count below free);
+  shown = λ s mapping e. elim (cases_eq s slot) [
+    | inl z ↦ let its = here s mapping z e in rw (← its) (k.few, (file, first, writable, refl, k.file_below, k.within))
+    | inr n ↦ f.shown s mapping (sym (there s n) ∙ e)
+  ];
+  placed = λ s index lt e.
+      let was = f.placed s index lt (sym (pinned_same s index) ∙ e) in
+      ap (λ (o : Option Slot). has_page o index) (there s (unpinned s index was)) ∙ was;
+})
+  where
+    shown : Shown
+    shown = OfFile file first writable
+
+    one : Slot
+    one = new_mapping process number shown count
+
+    now : MapsView
+    now = with_mapping old.maps slot process number shown count
+
+    below : slot < length old.maps.slots
+    below = (free_slot-is old.maps slot k.free).0
+
+    free : slot_at old.maps slot ≡ None
+    free = (free_slot-is old.maps slot k.free).1
+
+    pinned : now.pinned ≡ old.maps.pinned
+    pinned = pinned-with_mapping old.maps slot process number shown count
+
+    pinned_same : (s index : ℕ) → pinned_at now s index ≡ pinned_at old.maps s index
+    pinned_same s index = ap (λ xs. slice_index_or xs (place_at s index) false) pinned
+
+    -- a free slot has no place
+    unpinned : (s index : ℕ) → IsPlace old.maps s index → s ≢ slot
+    unpinned s index is z = let bad : false ≡ true = ap (λ (o : Option Slot). has_page o index) (sym free) ∙ ap (λ q. has_page (slot_at old.maps q) index) (sym z) ∙ is in cc
+
+    new_pins : List Bool → Option Mapping
+    new_pins pins = Some (record { shown = FlatFile file first writable; pins = pins })
+
+    none_pinned_yet : pins_of now slot count ≡ none_pinned count
+    none_pinned_yet =
+        pins_of-none now slot count
+        (λ index lt. false_from_ne_true (pinned_at now slot index) (λ e. unpinned slot index (f.placed slot index (omega (arith, lt, k.few)) (sym (pinned_same slot index) ∙ e)) refl))
+
+    there : (s : ℕ) → s ≢ slot → slot_at now s ≡ slot_at old.maps s
+    there s n = slot_at-with_mapping_other old.maps slot s process number shown count n
+
+    here : (s : ℕ) (mapping : Slot) → s ≡ slot → slot_at now s ≡ Some mapping → one ≡ mapping
+    here s mapping z e =
+        let both : Some one ≡ Some mapping = sym (slot_at-with_mapping_same old.maps slot process number shown count below) ∙ ap (slot_at now) (sym z) ∙ e in
+        some_exact both
+      where
+        some_exact : {a b : Slot} → Some a ≡ Some b → a ≡ b
+        some_exact e = cc
+
+    -- no other slot has the mapping's number
+    taken : (s : ℕ) (m : Slot) → slot_at old.maps s ≡ Some m → m.process ≡ process → m.map ≡ number → ⊥
+    taken s m e p n =
+        let yes : is_mapping process number (Some m) ≡ true = ap (λ q. is_mapping q number (Some m)) (sym p) ∙ ap (λ q. is_mapping m.process q (Some m)) (sym n) ∙ own_mapping m (f.live s m e) in
+        let bad : true ≡ false = sym yes ∙ ap (is_mapping process number) (sym e) ∙ find_slot-none old.maps process number k.none s in absurd cc
+
+    found_here : find_slot now process number ≡ Some slot
+    found_here =
+        position_only (is_mapping process number) now.slots slot None (rw (length-with_mapping old.maps slot process number shown count) below)
+        (ap (is_mapping process number) (slot_at-with_mapping_same old.maps slot process number shown count below) ∙ own_mapping one refl) only
+      where
+        only : (j : ℕ) → is_mapping process number (slot_at now j) ≡ true → j ≡ slot
+        only j t = elim (cases_eq j slot) [
+          | inl z ↦ z
+          | inr n ↦ let bad : true ≡ false = sym t ∙ ap (is_mapping process number) (there j n) ∙ find_slot-none old.maps process number k.none j in absurd cc
+        ]
+
+    other : (p n : ℕ) → (process ≡ p → number ≡ n → ⊥) → mapping_at (flat_with_mapping state process number (new_file file first writable count)) p n ≡ flat_found now (find_slot now p n)
+    other p n differ =
+        mapping_at-with_mapping_other state process number (new_file file first writable count) p n (λ e. differ (ap (λ (x : Place). x.process) (sym e)) (ap (λ (x : Place). x.map) (sym e)))
+        ∙ f.flat p n
+        ∙ sym (ap (flat_found now) (find_slot-with_mapping_other old.maps slot process number p n shown count free differ) ∙ of (find_slot old.maps p n) refl)
+      where
+        of : (o : Option ℕ) → find_slot old.maps p n ≡ o → flat_found now o ≡ flat_found old.maps o
+        of None e = refl
+        of (Some s) e =
+            let passes = find_slot-is old.maps p n s e in
+            let apart : s ≢ slot = λ z. let bad : true ≡ false = sym passes ∙ ap (λ q. is_mapping p n (slot_at old.maps q)) z ∙ ap (is_mapping p n) free in cc in
+            flat_mapping-same old.maps now s (there s apart) (λ index _. pinned_same s index)
+
+    len_more : finite.len (flat_with_mapping state process number (new_file file first writable count)).mappings ≡ finite.len state.mappings + 1
+    len_more =
+        let new : mapping_at state process number ≡ None = f.flat process number ∙ ap (flat_found old.maps) k.none in
+        finite.len-insert places_total state.mappings (place_of process number) (new_file file first writable count) ∙ ap (λ (o : Option Mapping). cond (is_some o) (finite.len state.mappings) (finite.len state.mappings + 1)) new
+
+-- what the flat machine has of a mapping whose page is pinned, or unpinned
+abbrev pub pinned_state : FlatState → (process number : ℕ) → MapsView → ℕ → Slot → (index : ℕ) → Bool → FlatState
+pinned_state state process number maps slot mapping index pins = flat_with_mapping state process number (with_pin (flat_slot maps slot mapping) index pins)
+
+has_below : (maps : MapsView) (slot : ℕ) (mapping : Slot) (index : ℕ) → slot_at maps slot ≡ Some mapping → has_page (slot_at maps slot) index ≡ true → index < mapping.count
+has_below maps slot mapping index at has = ltb-true index mapping.count (ap (λ o. has_page o index) (sym at) ∙ has)
+
+pub SlotsFit-pinned : (state : FlatState) (old new : Parts) (process number slot index : ℕ) (pins : Bool) → SlotsFit state old → (k : PinPlace old.maps process number slot index pins) → PinChange old.maps new.maps slot index pins
+    → length new.pages.infos ≡ length old.pages.infos → new.cache.files ≡ old.cache.files → SlotsFit (pinned_state state process number old.maps slot k.mapping index pins) new
+SlotsFit-pinned state old new process number slot index pins f k change infos files = record {
+  slots = rw slots f.slots;
+  entries = ap length change.entries ∙ f.entries;
+  pinned = change.size ∙ f.pinned;
+  pages = change.pages ∙ f.pages ∙ sym infos;
+  live = λ s mapping e. f.live s mapping (rw slots at e);
+  apart = λ s o mapping another e e' p n. f.apart s o mapping another (rw slots at e) (rw slots at e') p n;
+  flat = λ p n. elim (cases_eq p process) [
+    | inl z ↦ elim (cases_eq n number) [
+      | inl y ↦ rw (z, y) (mapping_at-with_mapping state process number mine ∙ sym here)
+      | inr m ↦ other p n (λ q r. m r)
+    ]
+    | inr m ↦ other p n (λ q r. m q)
+  ];
+  counted =
+      finite.len-insert places_total state.mappings (place_of process number) mine
+      ∙ ap (λ (o : Option Mapping). cond (is_some o) (finite.len state.mappings) (finite.len state.mappings + 1)) was
+      ∙ f.counted
+      ∙ ap (λ xs. of_live xs) (sym slots);
+  shown = λ s mapping e. let its = f.shown s mapping (rw slots at e) in (its.0, rw files its.1);
+  placed = λ s i lt e. placed s i lt e;
+}
+  where
+    mine : Mapping
+    mine = with_pin (flat_slot old.maps slot k.mapping) index pins
+
+    of_live : List (Option Slot) → ℕ
+    of_live xs = live_slots (record old.maps { slots = xs })
+
+    slots : new.maps.slots ≡ old.maps.slots
+    slots = change.slots
+
+    same : (s : ℕ) → slot_at new.maps s ≡ slot_at old.maps s
+    same s = ap (λ xs. slice_index_or xs s None) slots
+
+    found_same : (p n : ℕ) → find_slot new.maps p n ≡ find_slot old.maps p n
+    found_same p n = ap (λ xs. position (is_mapping p n) xs) slots
+
+    was : mapping_at state process number ≡ Some (flat_slot old.maps slot k.mapping)
+    was = f.flat process number ∙ ap (flat_found old.maps) k.found ∙ ap (flat_mapping old.maps slot) k.at
+
+    here : flat_found new.maps (find_slot new.maps process number) ≡ Some mine
+    here =
+        ap (flat_found new.maps) (found_same process number ∙ k.found) ∙ ap (flat_mapping new.maps slot) (same slot ∙ k.at)
+        ∙ ap (λ q. let out : Option Mapping = Some (record { shown = flat_shown k.mapping.shown k.mapping.count; pins = q }) in out)
+        (pins_of-set old.maps new.maps slot k.mapping.count index pins k.below change.here (λ i lt n. change.others slot i (omega (arith, lt, (f.shown slot k.mapping k.at).0)) (λ z y. n y)))
+
+    other : (p n : ℕ) → (p ≡ process → n ≡ number → ⊥) → mapping_at (flat_with_mapping state process number mine) p n ≡ flat_found new.maps (find_slot new.maps p n)
+    other p n differ =
+        mapping_at-with_mapping_other state process number mine p n (λ e. differ (ap (λ (x : Place). x.process) e) (ap (λ (x : Place). x.map) e))
+        ∙ f.flat p n
+        ∙ sym (ap (flat_found new.maps) (found_same p n) ∙ of (find_slot old.maps p n) refl)
+      where
+        -- a slot has one mapping
+        apart : (s : ℕ) → find_slot old.maps p n ≡ Some s → s ≢ slot
+        apart s e z =
+            let its = found_slot old.maps p n s e in
+            let mine = found_slot old.maps process number slot k.found in
+            let both : Some its.mapping ≡ Some mine.mapping = sym its.at ∙ ap (slot_at old.maps) z ∙ mine.at in
+            let one : its.mapping ≡ mine.mapping = cc in
+            differ (sym its.process_is ∙ ap (λ (m : Slot). m.process) one ∙ mine.process_is) (sym its.number_is ∙ ap (λ (m : Slot). m.map) one ∙ mine.number_is)
+
+        of : (o : Option ℕ) → find_slot old.maps p n ≡ o → flat_found new.maps o ≡ flat_found old.maps o
+        of None e = refl
+        of (Some s) e =
+            let its = found_slot old.maps p n s e in
+            flat_mapping-same old.maps new.maps s (same s) (λ i has. change.others s i (omega (arith, (f.shown s its.mapping its.at).0, has_below old.maps s its.mapping i its.at has)) (λ z y. apart s e z))
+
+    placed : (s i : ℕ) → i < MAX_MAPPING_PAGES → pinned_at new.maps s i ≡ true → IsPlace new.maps s i
+    placed s i lt e = ap (λ o. has_page o i) (same s) ∙ (elim (cases_eq s slot) [
+      | inl z ↦ elim (cases_eq i index) [
+        | inl y ↦ rw (z, y) (IsPlace-from old.maps slot index k.mapping k.at k.below)
+        | inr n ↦ f.placed s i lt (sym (change.others s i lt (λ q r. n r)) ∙ e)
+      ]
+      | inr n ↦ f.placed s i lt (sym (change.others s i lt (λ q r. n q)) ∙ e)
+    ])

@@ -1,0 +1,152 @@
+-- A guest before its first turn fits.
+use Rattle.std.proofs.Common.{◌≡◌, ◌<◌, ◌≤◌, ◌+◌, ◌*◌, ℕ, zero, suc, List, [], ◌∷◌, map, get_or, Contains, Some, None, refl, ap, sym, ◌∙◌, subst, arith}
+use Rattle.std.specs.List.{range_with_len, sum_by}
+use Rattle.std.proofs.lemmas.List.{length-map, length-replicate}
+use Rattle.std.proofs.lemmas.List.FromFn.{length-range_with_len, get_or-range_with_len}
+use Rattle.std.proofs.lemmas.List.Sums.{sum_by-cons}
+use Rattle.cmm_types.specs.declared.page.TheConstants.{PAGE}
+use Rattle.cmm_types.specs.declared.page.Tag.TheVariants.{File}
+use Rattle.cmm_types.specs.declared.plan.TheConstants.{MAX_MAPPING_SLOTS}
+use Rattle.cmm_types.specs.declared.plan.CpuPlan.{CpuPlan}
+use Rattle.cmm_types.specs.declared.plan.GuestPlan.{GuestPlan}
+use Rattle.cmm_types.specs.InRange.{GuestInRange}
+use Rattle.cmm_io.specs.DiskOf.{disk_of}
+use Rattle.cmm_io.specs.DiskView.{DiskView, AreBlocks}
+use Rattle.cmm_io.proofs.DiskBlocks.{whole_disk, length-disk_of}
+use Rattle.cmm_flat.specs.Bytes.{bytes_at}
+use Rattle.cmm_flat.specs.State.{FlatState, opening, file_at}
+use Rattle.cmm_flat.specs.Legal.{Progress, at_start as at_first}
+use Rattle.essa_state.specs.PageValue.{PageValue}
+use Rattle.cmm_storage.specs.StorageView.{StorageView}
+use Rattle.guest_pages.specs.declared.info.PageInfo.{PageInfo}
+use Rattle.guest_pages.specs.PagesView.{free_info, AreDistinct}
+use Rattle.guest_cache.specs.CacheView.{IsTag}
+use Rattle.guest_cache.specs.CacheLaws.{IsCache-opening, page_of-opening}
+use Rattle.guest_rules.specs.declared.parts.Parts.{Parts}
+use Rattle.guest_rules.specs.declared.processor.Phase.TheVariants.{Start, Fill, Sync as AtSync, SyncWrite}
+use Rattle.guest_rules.specs.declared.processor.Processor.{Processor}
+use Rattle.guest_rules.specs.GuestState.{at_start, processor_at, opening_guest}
+use Rattle.guest_rules.specs.Built.{GuestIsBuilt}
+use Rattle.guest_rules.specs.Fresh.{AreFresh, fresh_value}
+use Rattle.guest_rules.specs.Fit.{PagesFit, LocksFit, FlatFit, JournalFit, FaultsFit, Fit, backing, current_at, one_if_lost}
+use Rattle.guest_rules.proofs.Kept.Faults.{sum_below-le}
+use Rattle.guest_rules.proofs.Kept.PageFits.{EachPageFits, PageFits-free, HintsFit-from, ContentsFit-from}
+use Rattle.guest_rules.proofs.Kept.PinsKept.{PinsFit-from}
+use Rattle.guest_rules.proofs.Opening.OpeningMaps.{SlotsFit-opening, EntriesFit-opening, PinsStand-opening, info-opening}
+use Rattle.guest_rules.proofs.Opening.OpeningFiles.{planned_pages, opening-page, opening-lengths}
+
+-- a list of one value, read at that value as default
+all-same : {X A : Type 0} (xs : List A) (x : X) (i : ℕ) → get_or (map (λ a. x) xs) i x ≡ x
+all-same [] x i = refl
+all-same (a ∷ xs) x zero = refl
+all-same (a ∷ xs) x (suc i) = all-same xs x i
+
+-- numbers that are counted up
+in_range : (from count x : ℕ) → Contains (range_with_len from count) x → (from ≤ x) × (x < from + count)
+in_range from count x (k, below, at) =
+    let size : k < count = rw length-range_with_len at below in
+    let is : from + k ≡ x = sym (get_or-range_with_len from count k x size) ∙ at in
+    (omega (arith, is, size), omega (arith, is, size))
+
+AreDistinct-range : (from count : ℕ) → AreDistinct (range_with_len from count)
+AreDistinct-range from zero = tt {0}
+AreDistinct-range from (suc count) = (λ there. absurd (omega (arith, (in_range (from + 1) count from there).0)), AreDistinct-range (from + 1) count)
+
+PagesFit-opening : (plan : GuestPlan) → PagesFit (opening_guest plan).parts
+PagesFit-opening plan = record {
+  once = AreDistinct-range 0 plan.pages;
+  free = λ page there. (rw length-replicate (omega (arith, (in_range 0 plan.pages page there).1)), ap (λ (i : PageInfo). i.tag) (info-opening plan.pages page));
+  stacked = λ page below none.
+      let within : page < plan.pages = rw length-replicate at below in
+      (page, rw length-range_with_len within, get_or-range_with_len 0 plan.pages page page within ∙ (omega arith));
+  bare = λ page none. info-opening plan.pages page;
+  indexed = λ page tag some. let bad : None ≡ Some tag = ap (λ (i : PageInfo). i.tag) (sym (info-opening plan.pages page)) ∙ some in absurd cc;
+  found = λ page tag is some. let bad : None ≡ Some page = sym (page_of-opening (planned_pages plan.files) plan.swap MAX_MAPPING_SLOTS tag is) ∙ some in absurd cc;
+}
+
+processor-opening : (plan : GuestPlan) (cpu : ℕ) → processor_at (opening_guest plan) cpu ≡ at_start
+processor-opening plan cpu = all-same plan.cpus at_start cpu
+
+LocksFit-opening : (plan : GuestPlan) → LocksFit (opening_guest plan)
+LocksFit-opening plan = record {
+  stale_clean = λ page u. ap (λ (i : PageInfo). i.dirty) (info-opening plan.pages page);
+  filling = λ cpu page phase. let bad : Start ≡ Fill page = ap (λ (p : Processor). p.phase) (sym (processor-opening plan cpu)) ∙ phase in absurd cc;
+  syncing = λ cpu index phase. let bad : Start ≡ AtSync index = ap (λ (p : Processor). p.phase) (sym (processor-opening plan cpu)) ∙ phase in absurd cc;
+  writing = λ cpu index page phase. let bad : Start ≡ SyncWrite index page = ap (λ (p : Processor). p.phase) (sym (processor-opening plan cpu)) ∙ phase in absurd cc;
+  locked = λ cpu page owner. let bad : None ≡ Some cpu = ap (λ (i : PageInfo). i.owner) (sym (info-opening plan.pages page)) ∙ owner in absurd cc;
+  stale = λ page tag some none. let bad : None ≡ Some tag = ap (λ (i : PageInfo). i.tag) (sym (info-opening plan.pages page)) ∙ some in absurd cc;
+}
+
+no_place : (cpus : List CpuPlan) → sum_by (λ processor. processor.place) (map (λ cpu. at_start) cpus) ≡ 0
+no_place [] = refl
+no_place (cpu ∷ cpus) = sum_by-cons (λ (processor : Processor). processor.place) at_start (map (λ c. at_start) cpus) ∙ (omega (arith, no_place cpus))
+
+JournalFit-opening : (plan : GuestPlan) → JournalFit (opening_guest plan)
+JournalFit-opening plan = record {
+  legal = tt {0};
+  places = λ cpu below. ap (λ (p : Progress). p.next) (all-same plan.cpus at_first cpu) ∙ sym (place cpu);
+  within = λ cpu below. rw (place cpu) (omega arith);
+  counted = sym (no_place plan.cpus);
+}
+  where
+    place : (cpu : ℕ) → (processor_at (opening_guest plan) cpu).place ≡ 0
+    place cpu = ap (λ (p : Processor). p.place) (processor-opening plan cpu)
+
+FaultsFit-opening : (plan : GuestPlan) (v : StorageView) → ((page : ℕ) → page < v.pages → v.values page ≡ fresh_value) → FaultsFit (opening_guest plan).parts v
+FaultsFit-opening plan v fresh =
+    let sums = sum_below-le (λ page. one_if_lost (v.values page)) (λ page. 0) (λ page. (v.values page).count) (λ page. 0) v.pages (λ page below. subst (λ x. one_if_lost x + 0 ≤ x.count + 0) (sym (fresh page below)) (omega arith)) in
+    omega (arith, sums)
+
+pub Fit-opening : (plan : GuestPlan) (v : StorageView) (d : DiskView) → GuestInRange plan → GuestIsBuilt plan → AreFresh plan v d → Fit (opening_guest plan) v d
+Fit-opening plan v d range built fresh = record {
+  sizes = record {
+    range = range;
+    built = built;
+    infos = length-replicate plan.pages free_info;
+    pages = fresh.pages;
+    processors = length-map plan.cpus (λ cpu. at_start);
+    files = refl;
+    swap = length-replicate plan.swap None;
+    slots = refl;
+    index = (IsCache-opening (planned_pages plan.files) plan.swap MAX_MAPPING_SLOTS).whole;
+    blocks = fresh.count;
+  };
+  pages = PagesFit-opening plan;
+  slots = SlotsFit-opening plan;
+  entries = EntriesFit-opening plan;
+  pins = PinsFit-from parts v d (PinsStand-opening plan) fits;
+  locks = LocksFit-opening plan;
+  hints = HintsFit-from parts v d fresh.none_held fits;
+  contents = ContentsFit-from parts v d fresh.tells (disk_of plan.files plan.swap) fresh.blocks blocks fits;
+  flat = backed;
+  journal = JournalFit-opening plan;
+  faults = FaultsFit-opening plan v fresh.values;
+}
+  where
+    parts : Parts
+    parts = (opening_guest plan).parts
+
+    flat : FlatState
+    flat = opening plan.files
+
+    fits : EachPageFits parts v d
+    fits = record {
+      size = length-replicate plan.pages free_info ∙ sym fresh.pages;
+      each = λ page below.
+          let is = fresh.values page below in
+          rw (info-opening plan.pages page) (PageFits-free parts.cache d (v.values page) (ap (λ (x : PageValue). x.usage) is) (ap (λ (x : PageValue). x.changed) is) (rw is (refl, refl)));
+    }
+
+    blocks : AreBlocks d.count d.blocks
+    blocks = rw fresh.blocks (length-disk_of plan.files plan.swap ∙ sym fresh.count, whole_disk plan.files plan.swap range.files.each)
+
+    block : (file index : ℕ) → IsTag parts.cache (File file index) → bytes_at (file_at flat.files file) (PAGE * index) PAGE ≡ backing parts.cache d (File file index)
+    block file index is = rw fresh.blocks (opening-page plan.files plan.swap file index is.0 is.1)
+
+    backed : FlatFit flat (opening_guest plan) v d
+    backed = record {
+      lengths = opening-lengths plan.files range.files.each;
+      pages = λ file index is.
+          let none = page_of-opening (planned_pages plan.files) plan.swap MAX_MAPPING_SLOTS (File file index) is in
+          block file index is ∙ ap (λ o. current_at parts v o (backing parts.cache d (File file index))) (sym none);
+    }

@@ -1,0 +1,141 @@
+-- What a guest between two turns gives the calls of the next.
+use Rattle.std.specs.Prelude.{◌≡◌, ◌<◌, ℕ, ◌+◌, length, Bool, true, false, Option, Some, None, refl}
+use Rattle.std.proofs.Common.{arith, ap, sym, ◌∙◌}
+use Rattle.cmm_types.specs.declared.page.Usage.TheVariants.{S, V}
+use Rattle.cmm_types.specs.declared.page.Tag.{Tag}
+use Rattle.cmm_types.specs.declared.page.Tag.TheVariants.{File}
+use Rattle.cmm_io.specs.DiskView.{DiskView}
+use Rattle.cmm_flat.specs.State.{FlatState}
+use Rattle.essa_state.specs.PageValue.{PageValue, MayBecome, is_lost}
+use Rattle.cmm_storage.specs.StorageView.{StorageView}
+use Rattle.guest_pages.specs.declared.info.PageInfo.{PageInfo}
+use Rattle.guest_pages.specs.PagesView.{info_at, with_info, with_dirty, with_uptodate, with_owner, with_pins, with_writers}
+use Rattle.guest_pages.specs.PagesLaws.{info_at-with_info_same, length-with_info}
+use Rattle.guest_cache.specs.CacheView.{IsTag, page_of, pages_before}
+use Rattle.guest_rules.specs.declared.parts.Parts.{Parts}
+use Rattle.guest_rules.specs.declared.processor.Phase.TheVariants.{Fill}
+use Rattle.guest_rules.specs.Hint.{hint}
+use Rattle.guest_rules.specs.GuestState.{GuestState, processor_at}
+use Rattle.guest_rules.specs.Rows.{mapped, pinned, pins_after, filled, one_if}
+use Rattle.guest_rules.specs.Fit.{FitAt, IsWriting}
+use Rattle.guest_rules.proofs.Cases.TurnCases.{HasPage, ShowsPage}
+use Rattle.guest_rules.specs.Syncs.{unlocked, cleaned}
+use Rattle.guest_rules.proofs.Kept.SyncTables.{change-unlocked, change-cleaned}
+use Rattle.guest_rules.proofs.Rows.Values.{may_stable, stable_there}
+use Rattle.guest_rules.proofs.Kept.Tables.{info-filled}
+use Rattle.guest_rules.proofs.Rows.ValueLaws.{hint-tagged}
+use Rattle.guest_rules.proofs.Kept.Unshown.{stale-unshown}
+use Rattle.guest_rules.proofs.Kept.Unpinned.{stale-unpinned}
+use Rattle.guest_rules.proofs.Rows.Held.{IsUsed}
+use Rattle.guest_rules.proofs.Rows.Taken.{CanBeUsed}
+use Rattle.guest_rules.proofs.Rows.FillPage.{CanBeFilled}
+use Rattle.guest_rules.proofs.Rows.WriteBack.{CanBeWritten}
+
+-- the hint of a page that is locked, and of one that can be fetched again
+pub hint_locked : (info : PageInfo) (tag : Tag) (owner : ℕ) → info.tag ≡ Some tag → info.owner ≡ Some owner → hint info ≡ S
+unfolding hint
+hint_locked info tag owner tagged locked = grind arith
+
+pub hint_clean : (info : PageInfo) (tag : Tag) → info.tag ≡ Some tag → info.uptodate ≡ true → info.dirty ≡ false → info.owner ≡ None → info.pins ≡ 0 → info.writers ≡ 0 → hint info ≡ V
+unfolding hint
+hint_clean info tag tagged fresh clean unlocked unpinned unshown = rw (tagged, fresh, clean, unlocked, unpinned, unshown) refl
+
+-- a tagged page stays so while it is used
+pub is_used : (parts : Parts) (page : ℕ) (tag : Tag) → page < length parts.pages.infos → (info_at parts.pages page).tag ≡ Some tag → IsUsed parts page
+unfolding with_dirty
+is_used parts page tag below tagged false = hint-tagged _ tag tagged
+is_used parts page tag below tagged true = hint-tagged _ tag (ap (λ q. q.tag) (info_at-with_info_same parts.pages page (record (info_at parts.pages page) { dirty = true }) below) ∙ tagged)
+
+pub is_used_mapped : (parts : Parts) (page slot index : ℕ) (writable : Bool) (tag : Tag) → page < length parts.pages.infos → (info_at parts.pages page).tag ≡ Some tag
+    → IsUsed (mapped parts page slot index writable) page
+unfolding mapped with_writers
+is_used_mapped parts page slot index writable tag below tagged =
+    let info = record (info_at parts.pages page) { writers = (info_at parts.pages page).writers + one_if writable } in
+    is_used (mapped parts page slot index writable) page tag (rw (length-with_info parts.pages page info) below) (ap (λ q. q.tag) (info_at-with_info_same parts.pages page info below) ∙ tagged)
+
+pub is_used_pinned : (parts : Parts) (page slot index : ℕ) (pins : Bool) (tag : Tag) → page < length parts.pages.infos → (info_at parts.pages page).tag ≡ Some tag
+    → IsUsed (pinned parts page slot index pins) page
+unfolding pinned with_pins
+is_used_pinned parts page slot index pins tag below tagged =
+    let info = record (info_at parts.pages page) { pins = pins_after pins (info_at parts.pages page).pins } in
+    is_used (pinned parts page slot index pins) page tag (rw (length-with_info parts.pages page info) below) (ap (λ q. q.tag) (info_at-with_info_same parts.pages page info below) ∙ tagged)
+
+pub is_used_filled : (parts : Parts) (page : ℕ) (tag : Tag) → page < length parts.pages.infos → (info_at parts.pages page).tag ≡ Some tag → IsUsed (filled parts page) page
+unfolding with_uptodate with_owner
+is_used_filled parts page tag below tagged =
+    let fresh = record (info_at parts.pages page) { uptodate = true } in
+    let size = length-with_info parts.pages page fresh in
+    let more = length-with_info (with_info parts.pages page fresh) page (record (info_at (with_info parts.pages page fresh) page) { owner = None }) in
+    is_used (filled parts page) page tag (rw (more, size) below) (ap (λ q. q.tag) (info-filled parts page below) ∙ tagged)
+
+pub below_view : (state : FlatState) (g : GuestState) (v : StorageView) (d : DiskView) (page : ℕ) → FitAt state g v d → page < length g.parts.pages.infos → page < v.pages
+below_view state g v d page f h = omega (arith, h, f.sizes.infos, f.sizes.pages)
+
+pub found_page : (state : FlatState) (g : GuestState) (v : StorageView) (d : DiskView) (page : ℕ) (tag : Tag) → FitAt state g v d → IsTag g.parts.cache tag
+    → page_of g.parts.cache tag ≡ Some page → (info_at g.parts.pages page).owner ≡ None → HasPage g tag page
+found_page state g v d page tag f is_tag found unlocked =
+    let k = f.pages.found page tag is_tag found in record { below = k.0; tagged = k.1; unlocked = unlocked }
+
+-- an unlocked page is up to date
+pub has_shows : (state : FlatState) (g : GuestState) (v : StorageView) (d : DiskView) (page : ℕ) (tag : Tag) → FitAt state g v d → HasPage g tag page → ShowsPage g tag page
+has_shows state g v d page tag f has = record { below = has.below; tagged = has.tagged; uptodate = f.locks.stale page tag has.tagged has.unlocked }
+
+pub can_be_shown : (state : FlatState) (g : GuestState) (v : StorageView) (d : DiskView) (page : ℕ) (tag : Tag) → FitAt state g v d → ShowsPage g tag page → CanBeUsed g.parts page v
+can_be_shown state g v d page tag f shows =
+    let below = below_view state g v d page f shows.below in
+    record {
+      tells = f.contents.tells;
+      hinted = is_used g.parts page tag shows.below shows.tagged;
+      usage = λ bad. hint-tagged (info_at g.parts.pages page) tag shows.tagged (sym (f.hints.hints page below) ∙ bad);
+      filled = f.contents.not_blank page tag below shows.tagged shows.uptodate;
+    }
+
+pub can_be_used : (state : FlatState) (g : GuestState) (v : StorageView) (d : DiskView) (page : ℕ) (tag : Tag) → FitAt state g v d → HasPage g tag page → CanBeUsed g.parts page v
+can_be_used state g v d page tag f has = can_be_shown state g v d page tag f (has_shows state g v d page tag f has)
+
+-- a locked page is stable, so a page that the host discarded isn't locked
+pub lost_unlocked : (state : FlatState) (g : GuestState) (v : StorageView) (d : DiskView) (page : ℕ) (tag : Tag) (found : PageValue) → FitAt state g v d → ShowsPage g tag page → MayBecome (v.values page) found
+    → is_lost found.contents ≡ true → HasPage g tag page
+lost_unlocked state g v d page tag found f shows may lost = record { below = shows.below; tagged = shows.tagged; unlocked = of (info_at g.parts.pages page).owner refl }
+  where
+    of : (owner : Option ℕ) → (info_at g.parts.pages page).owner ≡ owner → (info_at g.parts.pages page).owner ≡ None
+    of None e = e
+    of (Some cpu) e =
+        let below = below_view state g v d page f shows.below in
+        let usage : (v.values page).usage ≡ S = f.hints.hints page below ∙ hint_locked (info_at g.parts.pages page) tag cpu shows.tagged e in
+        let same = may_stable (v.values page) found usage may in
+        let bad : true ≡ false = sym lost ∙ ap (λ q. is_lost q.contents) same ∙ stable_there (v.values page) usage (f.hints.values page below) in absurd cc
+
+-- a page that a processor writes back
+pub can_be_written : (state : FlatState) (g : GuestState) (v : StorageView) (d : DiskView) (cpu index page : ℕ) → FitAt state g v d → (k : IsWriting g cpu index page) → CanBeWritten g.parts page (File k.file index) v
+can_be_written state g v d cpu index page f k =
+    let below = below_view state g v d page f k.below in
+    let tag : Tag = File k.file index in
+    let clean = change-cleaned g.parts page k.below in
+    let dirty = change-unlocked g.parts page k.below in
+    record {
+      tells = f.contents.tells;
+      usage = f.hints.hints page below ∙ hint_locked (info_at g.parts.pages page) tag cpu k.tagged k.owner;
+      value = f.hints.values page below;
+      filled = f.contents.not_blank page tag below k.tagged k.uptodate;
+      backed_at = rw k.tagged refl;
+      block = pages_before g.parts.cache.files k.file + index;
+      backs = refl;
+      used_clean = is_used (cleaned g.parts page) page tag (rw clean.size k.below) (ap (λ (i : PageInfo). i.tag) clean.here ∙ k.tagged);
+      used_dirty = is_used (unlocked g.parts page) page tag (rw dirty.size k.below) (ap (λ (i : PageInfo). i.tag) dirty.here ∙ k.tagged);
+    }
+
+pub can_be_filled : (state : FlatState) (g : GuestState) (v : StorageView) (d : DiskView) (cpu page : ℕ) → FitAt state g v d → (processor_at g cpu).phase ≡ Fill page → CanBeFilled g.parts page v d
+can_be_filled state g v d cpu page f phase =
+    let k = (f.locks.filling cpu page phase).1 in
+    let below = below_view state g v d page f k.below in
+    let info = info-filled g.parts page k.below in
+    record {
+      tells = f.contents.tells;
+      told = f.contents.told;
+      usage = f.hints.hints page below ∙ hint_locked (info_at g.parts.pages page) k.tag cpu k.tagged k.owner;
+      value = f.hints.values page below;
+      used = is_used_filled g.parts page k.tag k.below k.tagged;
+      hinted = ap hint info
+          ∙ hint_clean (record (info_at g.parts.pages page) { uptodate = true; owner = None }) k.tag k.tagged refl (f.locks.stale_clean page k.stale) refl (stale-unpinned g.parts page k.tag f.pins f.pages k.tagged k.stale) (stale-unshown g.parts page f.entries k.stale);
+    }

@@ -1,0 +1,251 @@
+-- What fit gives the calls of the code of a turn: what each of them needs of its numbers.
+use Rattle.std.specs.Prelude.{◌≡◌, ◌<◌, ◌≤◌, ℕ, Bool, true, false, ◌+◌, ◌*◌, ◌/◌, zero, suc, List, [], ◌∷◌, length, sum, sum_by, get_or, All, Contains, Option, None, Some, IfSome, IsSome, refl}
+use Rattle.std.proofs.Common.{arith, ap, sym, ◌∙◌}
+use Rattle.std.proofs.lemmas.List.Sums.{sum-map, sum_by-cons, sum_by-le, count_by-le-length}
+use Rattle.cmm_types.specs.declared.page.TheConstants.{PAGE}
+use Rattle.cmm_types.specs.declared.page.Usage.TheVariants.{S}
+use Rattle.cmm_types.specs.declared.page.Tag.{Tag}
+use Rattle.cmm_types.specs.declared.page.Tag.TheVariants.{File}
+use Rattle.cmm_types.specs.declared.plan.TheConstants.{MAX_COMMANDS, MAX_FILE_PAGES, MAX_MAPPING_SLOTS, MAX_PROCESSES}
+use Rattle.cmm_types.specs.declared.plan.CpuPlan.{CpuPlan}
+use Rattle.cmm_types.specs.declared.plan.GuestPlan.{GuestPlan}
+use Rattle.cmm_types.specs.declared.command.TheConstants.{MAX_MAPPING_NUMBERS, MAX_MAPPING_PAGES}
+use Rattle.cmm_types.specs.declared.command.Op.{Op}
+use Rattle.cmm_types.specs.declared.command.Op.TheVariants.{Read, MapFile, Load, Store, Pin, Unpin, Sync}
+use Rattle.cmm_types.specs.InRange.{GuestInRange, ArePages, IsPiece, file_pages_of}
+use Rattle.cmm_io.specs.DiskView.{DiskView}
+use Rattle.cmm_flat.specs.Legal.{command_of, process_of, flat_of}
+use Rattle.cmm_storage.specs.StorageView.{StorageView}
+use Rattle.guest_pages.specs.PagesView.{info_at}
+use Rattle.guest_cache.specs.CacheView.{IsTag, page_of, backing_of}
+use Rattle.guest_cache.specs.CacheLaws.{backing_of-below}
+use Rattle.guest_maps.specs.declared.slot.Pte.{Pte}
+use Rattle.guest_maps.specs.MapsView.{IsPlace, free_slot, find_slot, entry_at, stores_to}
+use Rattle.guest_rules.specs.declared.processor.Phase.TheVariants.{Fill, SyncWrite}
+use Rattle.guest_rules.specs.declared.processor.Processor.{Processor}
+use Rattle.guest_rules.specs.GuestState.{GuestState, processor_at, at_start}
+use Rattle.guest_rules.specs.Rows.{backing_at}
+use Rattle.guest_rules.specs.Fit.{SizesFit, Fit, commands_of, all_commands, IsSyncing}
+use Rattle.guest_rules.proofs.Cases.TurnCases.{Has, Starts, HasItsTag, pin_op}
+use Rattle.guest_rules.proofs.Cases.Commands.{command-below, commands_of-le, command-in_range, process_of-below}
+use Rattle.guest_rules.proofs.Kept.PageFits.{tagged-below}
+use Rattle.guest_rules.proofs.Kept.EntryLaws.{place-tagged}
+use Rattle.guest_rules.proofs.Kept.PinLaws.{pins_within-some, pins_within-most}
+use Rattle.guest_rules.proofs.Kept.SlotsKept.{slot-below}
+use Rattle.guest_rules.proofs.Cases.WantedTags.{tag_in-Some, is_wanted, sync-file, planned-tag}
+use Rattle.guest_rules.proofs.Cases.Placed.{pin-place}
+use Rattle.guest_rules.proofs.Ready.Ready.{below_view, can_be_written}
+use Rattle.guest_rules.specs.Turns.{file_pages}
+use Rattle.guest_rules.proofs.Cases.FileSizes.{file_pages-some, file_pages-most}
+use Rattle.guest_rules.proofs.Cases.Reached.{Reaches, entry_page, has_free_slot}
+
+-- ---- pages
+
+-- a page with a tag isn't free
+pub tagged-not_free : (g : GuestState) (v : StorageView) (d : DiskView) (page : ℕ) (tag : Tag) → Fit g v d → (info_at g.parts.pages page).tag ≡ Some tag → Contains g.parts.pages.free page → ⊥
+tagged-not_free g v d page tag f tagged there = let bad : None ≡ Some tag = sym (f.pages.free page there).1 ∙ tagged in cc
+
+-- whatever tag a page has is one
+pub tag-is_tag : (g : GuestState) (v : StorageView) (d : DiskView) (page : ℕ) → Fit g v d → IfSome (info_at g.parts.pages page).tag (λ tag. IsTag g.parts.cache tag)
+tag-is_tag g v d page f = of (info_at g.parts.pages page).tag refl
+  where
+    of : (o : Option Tag) → (info_at g.parts.pages page).tag ≡ o → IfSome o (λ tag. IsTag g.parts.cache tag)
+    of None e = tt
+    of (Some tag) e = (f.pages.indexed page tag e).0
+
+-- what a call needs of a page that has a tag
+pub record CanBeUsed (g : GuestState) (v : StorageView) (page : ℕ) : Type 0 where
+  pub page_below : page < length g.parts.pages.infos
+  pub pages_below : page < v.pages
+  pub not_free : Contains g.parts.pages.free page → ⊥
+  pub tag : IfSome (info_at g.parts.pages page).tag (λ tag. IsTag g.parts.cache tag)
+
+tagged-usable : (g : GuestState) (v : StorageView) (d : DiskView) (page : ℕ) (tag : Tag) → Fit g v d → (info_at g.parts.pages page).tag ≡ Some tag → CanBeUsed g v page
+tagged-usable g v d page tag f tagged =
+    let below = tagged-below g.parts.pages page tag tagged in
+    record { page_below = below; pages_below = below_view (flat_of g.plan g.journal) g v d page f below; not_free = tagged-not_free g v d page tag f tagged; tag = tag-is_tag g v d page f }
+
+-- a page that the index has
+pub found-usable : (g : GuestState) (v : StorageView) (d : DiskView) (page : ℕ) (tag : Tag) → Fit g v d → IsTag g.parts.cache tag → page_of g.parts.cache tag ≡ Some page → CanBeUsed g v page
+found-usable g v d page tag f is found = tagged-usable g v d page tag f (f.pages.found page tag is found).1
+
+-- a page that a processor fills
+pub filling-usable : (g : GuestState) (v : StorageView) (d : DiskView) (cpu page : ℕ) → Fit g v d → (processor_at g cpu).phase ≡ Fill page → CanBeUsed g v page
+filling-usable g v d cpu page f phase = let k = (f.locks.filling cpu page phase).1 in tagged-usable g v d page k.tag f k.tagged
+
+-- a page that a processor writes back
+pub writing-usable : (g : GuestState) (v : StorageView) (d : DiskView) (cpu index page : ℕ) → Fit g v d → (processor_at g cpu).phase ≡ SyncWrite index page → CanBeUsed g v page
+writing-usable g v d cpu index page f phase = let k = f.locks.writing cpu index page phase in tagged-usable g v d page (File k.file index) f k.tagged
+
+-- it is stable
+pub writing-stable : (g : GuestState) (v : StorageView) (d : DiskView) (cpu index page : ℕ) → Fit g v d → (processor_at g cpu).phase ≡ SyncWrite index page → (v.values page).usage ≡ S
+writing-stable g v d cpu index page f phase = (can_be_written (flat_of g.plan g.journal) g v d cpu index page f (f.locks.writing cpu index page phase)).usage
+
+-- the page of the entry that a load or store finds
+pub entry-usable : (g : GuestState) (v : StorageView) (d : DiskView) (cpu : ℕ) (op : Op) (writes : Bool) (slot off : ℕ) (pte : Pte) → Fit g v d → Reaches g cpu op writes slot off → entry_at g.parts.maps slot (off / PAGE) ≡ Some pte → CanBeUsed g v pte.page
+entry-usable g v d cpu op writes slot off pte f k entry =
+    let has = entry_page (flat_of g.plan g.journal) g v d cpu op writes slot off pte f k entry in
+    tagged-usable g v d pte.page k.tag f has.tagged
+
+-- the next free page
+pub free-below : (g : GuestState) (v : StorageView) (d : DiskView) (page : ℕ) → Fit g v d → Contains g.parts.pages.free page → page < length g.parts.pages.infos
+free-below g v d page f there = (f.pages.free page there).0
+
+-- ---- blocks
+
+-- the files' pages and the swap slots have their blocks on the disk
+pub blocks-most : (g : GuestState) (v : StorageView) (d : DiskView) → SizesFit g v d → sum g.parts.cache.files + length g.parts.cache.swap ≤ d.count
+blocks-most g v d f =
+    let all : sum g.parts.cache.files ≡ file_pages_of g.plan.files = ap sum f.files ∙ sum-map (λ file. file.pages) g.plan.files in
+    omega (arith, all, f.swap, f.blocks)
+
+-- the block that a page's tag is read from is one of the disk's
+pub backing-below : (g : GuestState) (v : StorageView) (d : DiskView) (page : ℕ) → Fit g v d → IfSome (backing_at g.parts page) (λ block. block < d.count)
+backing-below g v d page f = of (info_at g.parts.pages page).tag refl
+  where
+    below : (tag : Tag) → IsTag g.parts.cache tag → (o : Option ℕ) → backing_of g.parts.cache tag ≡ o → IfSome o (λ block. block < d.count)
+    below tag is None e = tt
+    below tag is (Some block) e = omega (arith, backing_of-below g.parts.cache tag block is e, blocks-most g v d f.sizes)
+
+    of : (o : Option Tag) → (info_at g.parts.pages page).tag ≡ o → IfSome (backing_at g.parts page) (λ block. block < d.count)
+    of None e = rw (e, backing_at) tt
+    of (Some tag) e = rw (e, backing_at) (below tag (f.pages.indexed page tag e).0 (backing_of g.parts.cache tag) refl)
+
+-- ---- commands
+
+-- a command's process is one of the guest's
+pub process-below : (g : GuestState) (v : StorageView) (d : DiskView) (cpu : ℕ) → Fit g v d → process_of g.plan cpu < MAX_PROCESSES
+process-below g v d cpu f = process_of-below g.plan cpu f.sizes.range
+
+-- a read, a load or a store is of at most so many bytes, all in one page
+pub read-piece : (g : GuestState) (v : StorageView) (d : DiskView) (cpu file off len : ℕ) → Fit g v d → Has g cpu (Read file off len) → IsPiece off len
+read-piece g v d cpu file off len f has = (command-in_range g.plan cpu (processor_at g cpu).place (Read file off len) f.sizes.range has.command).1
+
+pub load-piece : (g : GuestState) (v : StorageView) (d : DiskView) (cpu number off len : ℕ) → Fit g v d → Has g cpu (Load number off len) → (number < MAX_MAPPING_NUMBERS) × IsPiece off len
+load-piece g v d cpu number off len f has = command-in_range g.plan cpu (processor_at g cpu).place (Load number off len) f.sizes.range has.command
+
+pub store-piece : (g : GuestState) (v : StorageView) (d : DiskView) (cpu number off : ℕ) (bytes : List ℕ) → Fit g v d → Has g cpu (Store number off bytes) → (number < MAX_MAPPING_NUMBERS) × IsPiece off (length bytes)
+store-piece g v d cpu number off bytes f has = command-in_range g.plan cpu (processor_at g cpu).place (Store number off bytes) f.sizes.range has.command
+
+-- its page is one that a mapping may have
+pub piece-page : (off len : ℕ) → IsPiece off len → off / PAGE < MAX_MAPPING_PAGES
+piece-page off len piece = omega (arith, piece.start)
+
+-- a new mapping is of pages that a mapping may have
+pub map-pages : (g : GuestState) (v : StorageView) (d : DiskView) (cpu number file first count : ℕ) (writable : Bool) → Fit g v d → Has g cpu (MapFile number file first count writable) → (number < MAX_MAPPING_NUMBERS) × ArePages first count
+map-pages g v d cpu number file first count writable f has =
+    let range = command-in_range g.plan cpu (processor_at g cpu).place (MapFile number file first count writable) f.sizes.range has.command in
+    (range.0, range.2)
+
+-- where it isn't refused, a slot is free
+pub map-free : (g : GuestState) (v : StorageView) (d : DiskView) (cpu number file first count : ℕ) (writable : Bool) → Fit g v d → Starts g cpu (MapFile number file first count writable) → IsSome (free_slot g.parts.maps)
+map-free g v d cpu number file first count writable f starts = of (free_slot g.parts.maps) refl
+  where
+    of : (o : Option ℕ) → free_slot g.parts.maps ≡ o → IsSome o
+    of None e = absurd (has_free_slot (flat_of g.plan g.journal) g v d cpu number file first count writable f starts e)
+    of (Some slot) e = refl
+
+-- a sync that isn't refused begins with page 0 of its file
+pub sync-starts : (g : GuestState) (v : StorageView) (d : DiskView) (cpu file : ℕ) → Fit g v d → Starts g cpu (Sync file) → IsSyncing g cpu file 0
+sync-starts g v d cpu file f starts =
+    let below = sync-file g (process_of g.plan cpu) file starts.accepted in
+    record { cpu_below = starts.has.below; command = starts.has.command; file_below = below; within = file_pages-some g.plan.files file f.sizes.range.files.each below }
+
+-- each page of its file has a tag
+pub syncing-tag : (g : GuestState) (v : StorageView) (d : DiskView) (cpu file index : ℕ) → Fit g v d → IsSyncing g cpu file index → IsTag g.parts.cache (File file index)
+syncing-tag g v d cpu file index f k = planned-tag g v d file index f.sizes k.file_below k.within
+
+-- and there are at most so many
+pub file-few : (g : GuestState) (v : StorageView) (d : DiskView) (file : ℕ) → Fit g v d → file_pages g.plan.files file ≤ MAX_FILE_PAGES
+file-few g v d file f = file_pages-most g.plan.files file f.sizes.range.files.each
+
+-- ---- entries
+
+-- the place of a load or store that is accepted is one
+pub reached-place : (g : GuestState) (cpu : ℕ) (op : Op) (writes : Bool) (slot off : ℕ) → Reaches g cpu op writes slot off → IsPlace g.parts.maps slot (off / PAGE)
+reached-place g cpu op writes slot off k = place-tagged g.parts.maps slot (off / PAGE) k.tag k.shown
+
+-- entries may show each page of the guest
+pub page-shown : (g : GuestState) (v : StorageView) (d : DiskView) (page : ℕ) → Fit g v d → page < length g.parts.pages.infos → page < g.parts.maps.pages
+page-shown g v d page f below = rw f.slots.pages below
+
+-- a page has at most as many writers as there are entries
+pub writers-most : (g : GuestState) (v : StorageView) (d : DiskView) (page : ℕ) → Fit g v d → (info_at g.parts.pages page).writers ≤ MAX_MAPPING_SLOTS * MAX_MAPPING_PAGES
+writers-most g v d page f = omega (arith, f.entries.writers page, count_by-le-length (stores_to page) g.parts.maps.entries, f.slots.entries)
+
+-- ---- pins
+
+-- the numbers of a pin or an unpin
+pub pin-piece : (g : GuestState) (v : StorageView) (d : DiskView) (cpu : ℕ) (pins : Bool) (number index : ℕ) → Fit g v d → Has g cpu (pin_op pins number index) → (number < MAX_MAPPING_NUMBERS) × (index < MAX_MAPPING_PAGES)
+pin-piece g v d cpu true number index f has = command-in_range g.plan cpu (processor_at g cpu).place (Pin number index) f.sizes.range has.command
+pin-piece g v d cpu false number index f has = command-in_range g.plan cpu (processor_at g cpu).place (Unpin number index) f.sizes.range has.command
+
+-- a page has at most as many pins as there are places
+pub pins-most : (g : GuestState) (v : StorageView) (d : DiskView) (page : ℕ) → Fit g v d → (info_at g.parts.pages page).pins ≤ MAX_MAPPING_SLOTS * MAX_MAPPING_PAGES
+pins-most g v d page f = of (info_at g.parts.pages page).tag refl
+  where
+    of : (o : Option Tag) → (info_at g.parts.pages page).tag ≡ o → (info_at g.parts.pages page).pins ≤ MAX_MAPPING_SLOTS * MAX_MAPPING_PAGES
+    of None e = rw (f.pages.bare page e) (omega arith)
+    of (Some tag) e = omega (arith, f.pins.counted page tag e, pins_within-most g.parts.maps tag (length g.parts.maps.slots) MAX_MAPPING_PAGES, f.slots.slots)
+
+-- and the page of an unpin has one
+pub unpin-some : (g : GuestState) (v : StorageView) (d : DiskView) (cpu number index page : ℕ) → Fit g v d → Starts g cpu (Unpin number index) → HasItsTag g cpu (Unpin number index) page → 1 ≤ (info_at g.parts.pages page).pins
+unpin-some g v d cpu number index page f starts has =
+    let tag = has.tag in
+    let its = tag_in-Some g.parts (find_slot g.parts.maps (process_of g.plan cpu) number) index tag has.wants in
+    let k = pin-place g cpu false number index its.0 starts its.1 in
+    let is = (is_wanted (flat_of g.plan g.journal) g v d cpu (Unpin number index) tag f.sizes f.slots starts has.wants).is_tag in
+    let few : index < MAX_MAPPING_PAGES = omega (arith, k.below, (f.slots.shown its.0 k.mapping k.at).0) in
+    let some = pins_within-some g.parts.maps tag (length g.parts.maps.slots) MAX_MAPPING_PAGES its.0 index (slot-below g.parts.maps its.0 k.mapping k.at) few k.was its.2 in
+    omega (arith, f.pins.counted page tag (f.pages.found page tag is has.found).1, some)
+
+-- ---- places and the journal
+
+-- a processor has at most so many commands
+pub place-below : (g : GuestState) (v : StorageView) (d : DiskView) (cpu : ℕ) (op : Op) → Fit g v d → command_of g.plan cpu (processor_at g cpu).place ≡ Some op → (processor_at g cpu).place < MAX_COMMANDS
+place-below g v d cpu op f command = omega (arith, command-below g.plan cpu (processor_at g cpu).place op command, commands_of-le g.plan cpu f.sizes.range)
+
+-- the plan with other processors
+abbrev with_cpus : GuestPlan → List CpuPlan → GuestPlan
+with_cpus plan cpus = record plan { cpus = cpus }
+
+places-le : (plan : GuestPlan) (processors : List Processor) (cpus : List CpuPlan) → length processors ≡ length cpus
+    → ((q : ℕ) → q < length processors → (get_or processors q at_start).place ≤ commands_of (with_cpus plan cpus) q)
+    → sum_by (λ processor. processor.place) processors ≤ sum_by (λ cpu. length cpu.commands) cpus
+places-le plan [] [] size each = omega arith
+places-le plan [] (c ∷ cpus) size each = absurd (omega arith)
+places-le plan (p ∷ processors) [] size each = absurd (omega arith)
+places-le plan (p ∷ processors) (c ∷ cpus) size each =
+    let first : p.place ≤ length c.commands = each 0 (omega arith) in
+    let rest = places-le plan processors cpus (omega arith) (λ q below. each (suc q) (omega arith)) in
+    omega (arith, first, rest, sum_by-cons (λ (x : Processor). x.place) p processors, sum_by-cons (λ (x : CpuPlan). length x.commands) c cpus)
+
+places-lt : (plan : GuestPlan) (cpu : ℕ) (processors : List Processor) (cpus : List CpuPlan) → length processors ≡ length cpus
+    → ((q : ℕ) → q < length processors → (get_or processors q at_start).place ≤ commands_of (with_cpus plan cpus) q) → cpu < length processors → (get_or processors cpu at_start).place < commands_of (with_cpus plan cpus) cpu
+    → sum_by (λ processor. processor.place) processors < sum_by (λ cpu. length cpu.commands) cpus
+places-lt plan cpu [] [] size each below here = absurd (omega arith)
+places-lt plan cpu [] (c ∷ cpus) size each below here = absurd (omega arith)
+places-lt plan cpu (p ∷ processors) [] size each below here = absurd (omega arith)
+places-lt plan zero (p ∷ processors) (c ∷ cpus) size each below here =
+    let first : p.place < length c.commands = here in
+    let rest = places-le plan processors cpus (omega arith) (λ q lt. each (suc q) (omega arith)) in
+    omega (arith, first, rest, sum_by-cons (λ (x : Processor). x.place) p processors, sum_by-cons (λ (x : CpuPlan). length x.commands) c cpus)
+places-lt plan (suc cpu) (p ∷ processors) (c ∷ cpus) size each below here =
+    let first : p.place ≤ length c.commands = each 0 (omega arith) in
+    let rest = places-lt plan cpu processors cpus (omega arith) (λ q lt. each (suc q) (omega arith)) (omega arith) here in
+    omega (arith, first, rest, sum_by-cons (λ (x : Processor). x.place) p processors, sum_by-cons (λ (x : CpuPlan). length x.commands) c cpus)
+
+-- the journal has at most an entry for each command
+pub journal-most : (g : GuestState) (v : StorageView) (d : DiskView) → Fit g v d → length g.journal ≤ all_commands g.plan
+journal-most g v d f = omega (arith, places-le g.plan g.processors g.plan.cpus f.sizes.processors f.journal.within, f.journal.counted)
+
+-- while a command is left there is room for its entry
+pub journal-room : (g : GuestState) (v : StorageView) (d : DiskView) (cpu : ℕ) (op : Op) → Fit g v d → cpu < length g.processors → command_of g.plan cpu (processor_at g cpu).place ≡ Some op → length g.journal < all_commands g.plan
+journal-room g v d cpu op f below command =
+    omega (arith, places-lt g.plan cpu g.processors g.plan.cpus f.sizes.processors f.journal.within below (command-below g.plan cpu (processor_at g cpu).place op command), f.journal.counted)
+
+-- 8 processors of at most 10,000 commands
+pub all_commands-bound : (plan : GuestPlan) → GuestInRange plan → all_commands plan ≤ 80000
+all_commands-bound plan range =
+    let each : All (λ cpu. length cpu.commands ≤ MAX_COMMANDS) plan.cpus = λ k d h. (range.cpus.each k d h).few in
+    omega (arith, sum_by-le (λ (cpu : CpuPlan). length cpu.commands) MAX_COMMANDS plan.cpus each, range.cpus.few)

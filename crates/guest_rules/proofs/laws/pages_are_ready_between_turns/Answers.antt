@@ -1,0 +1,13 @@
+use Rattle.cmm_flat.specs.Legal.{flat_of}
+use Rattle.guest_rules.proofs.Ready.AnswerReady.{shown-ready, fill-ready, write_back-ready}
+use Rattle.guest_rules.proofs.laws.pages_are_ready_between_turns.Goals as goal
+
+pub returns-clause-filled : goal.returns-clause-filled
+returns-clause-filled c g v d page tag fit below tagged uptodate =
+    shown-ready (flat_of g.plan g.journal) g v d page tag fit (record { below = below; tagged = tagged; uptodate = uptodate })
+
+pub returns-clause-fills : goal.returns-clause-fills
+returns-clause-fills c g v d cpu page fit phase = fill-ready (flat_of g.plan g.journal) g v d cpu page fit phase
+
+pub returns-clause-writes : goal.returns-clause-writes
+returns-clause-writes c g v d cpu index page fit phase = write_back-ready (flat_of g.plan g.journal) g v d cpu index page fit (fit.locks.writing cpu index page phase)

@@ -1,0 +1,46 @@
+//! What holds of every guest between its turns. Each law stands on the definitions alone, so that its function does
+//! nothing.
+
+ghost use Rattle.std.specs.Prelude.{◌≡◌, ◌<◌, ℕ, Some, true, length};
+ghost use Rattle.cmm_types.specs.declared.page.Tag.{Tag};
+ghost use Rattle.cmm_types.specs.declared.plan.GuestPlan.{GuestPlan};
+ghost use Rattle.cmm_types.specs.declared.turn.Turn.{Turn};
+ghost use Rattle.cmm_types.specs.declared.turn.Alone.{Alone};
+ghost use Rattle.cmm_io.specs.DiskView.{DiskView};
+ghost use Rattle.cmm_storage.specs.StorageView.{StorageView};
+ghost use Rattle.cmm_storage.specs.Views.{Seen};
+ghost use Rattle.guest_pages.specs.PagesView.{info_at};
+ghost use Rattle.guest_rules.specs.declared.processor.Phase.TheVariants.{Fill, SyncWrite};
+ghost use Rattle.guest_rules.specs.GuestState.{GuestState, opening_guest, processor_at};
+ghost use Rattle.guest_rules.specs.Turns.{turn};
+ghost use Rattle.guest_rules.specs.Alone.{alone};
+ghost use Rattle.guest_rules.specs.Fit.{Fit};
+ghost use Rattle.guest_rules.specs.Meanwhile.{AllMay};
+ghost use Rattle.guest_rules.specs.Failures.{FailuresFit};
+ghost use Rattle.guest_rules.specs.Answers.{HasBeenFilled, IsToBeFilled, IsToBeWritten};
+
+/// What the host does between two turns of a guest leaves it fit.
+pub fn host_leaves_guests_fit()
+    ensures { (g : GuestState) (v : StorageView) (d : DiskView) (w : StorageView) (e : DiskView) → Fit g v d → AllMay v d w e → Fit g w e }
+{}
+
+/// No more commands of a guest fail than calls of its disk and of its pager do: before its first turn, and after each
+/// turn and the turns of a processor that goes on alone.
+pub fn failed_commands_are_counted()
+    ensures open { (plan : GuestPlan) (v : StorageView) (d : DiskView) → FailuresFit (opening_guest plan) v d }
+    ensures turn { (g : GuestState) (cpu : ℕ) (v : StorageView) (d : DiskView) (h : GuestState) (t : Turn) (w : StorageView) (e : DiskView)
+        → Fit g v d → cpu < length g.processors → Seen {A = GuestState × Turn} (turn g cpu) v d (h, t) w e → FailuresFit g v d → FailuresFit h w e }
+    ensures alone { (g : GuestState) (cpu : ℕ) (v : StorageView) (d : DiskView) (h : GuestState) (a : Alone) (w : StorageView) (e : DiskView)
+        → Fit g v d → cpu < length g.processors → Seen {A = GuestState × Alone} (alone g cpu) v d (h, a) w e → FailuresFit g v d → FailuresFit h w e }
+{}
+
+/// What the calls on one page ask of it, to say in words what they leave, stands between any two turns: of a page that is
+/// up to date, of one that a processor fills, and of one that a processor writes back.
+pub fn pages_are_ready_between_turns()
+    ensures filled { (g : GuestState) (v : StorageView) (d : DiskView) (page : ℕ) (tag : Tag) → Fit g v d → page < length g.parts.pages.infos
+        → (info_at g.parts.pages page).tag ≡ Some tag → (info_at g.parts.pages page).uptodate ≡ true → HasBeenFilled g.parts page v }
+    ensures fills { (g : GuestState) (v : StorageView) (d : DiskView) (cpu page : ℕ)
+        → Fit g v d → (processor_at g cpu).phase ≡ Fill page → IsToBeFilled g.parts page v d }
+    ensures writes { (g : GuestState) (v : StorageView) (d : DiskView) (cpu index page : ℕ)
+        → Fit g v d → (processor_at g cpu).phase ≡ SyncWrite index page → IsToBeWritten g.parts page v }
+{}
