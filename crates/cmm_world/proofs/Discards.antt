@@ -8,8 +8,9 @@ use Rattle.essa_state.specs.declared.fields.Fields.{Fields}
 use Rattle.host_plain.specs.MemoryState.{opening_word}
 use Rattle.host_plain.specs.HostState.{start_of, pages_of}
 use Rattle.guest_rules.specs.Fit.{sum_below}
-use Rattle.cmm_world.specs.WorldState.{WorldState, WorldFit, guest_at}
+use Rattle.cmm_world.specs.WorldState.{WorldState, guest_at}
 use Rattle.cmm_world.specs.WorldView.{discards_of}
+use Rattle.cmm_world.specs.WorldFit.{WorldFit}
 
 taken_past : {X : Type 0} (xs : List X) (n : ℕ) → length xs ≤ n → take (n + 1) xs ≡ take n xs
 taken_past xs n past = take_all (n + 1) xs (omega (arith, past)) ∙ sym (take_all n xs past)
@@ -21,7 +22,8 @@ sum_below-words words start zero = refl
 sum_below-words words start (suc count) =
     let before = sum_below-words words start count in
     let next : suc count ≡ count + 1 = omega arith in
-    let taken : sum_by (λ word. word.count) (take (suc count) (drop start words)) ≡ sum_by (λ word. word.count) (take (count + 1) (drop start words)) = ap (λ n. sum_by (λ word. word.count) (take n (drop start words))) next in
+    let taken : sum_by (λ word. word.count) (take (suc count) (drop start words)) ≡ sum_by (λ word. word.count) (take (count + 1) (drop start words)) =
+    ap (λ n. sum_by (λ word. word.count) (take n (drop start words))) next in
     elim (cases_lt count (length (drop start words))) [
       | inl below ↦
           let more = sum_by_more (λ word. word.count) (drop start words) count opening_word below in

@@ -8,7 +8,8 @@ use Rattle.cmm_types.specs.InRange.{GuestHas}
 use Rattle.host_plain.specs.HostState.{pages_of}
 use Rattle.guest_rules.specs.GuestState.{GuestState, opening_guest}
 use Rattle.cmm_world.specs.WorldState.{WorldState, guest_at, no_plan}
-use Rattle.cmm_world.specs.WorldView.{IsWorld, plans_of}
+use Rattle.cmm_world.specs.WorldView.{plans_of}
+use Rattle.cmm_world.specs.WorldFit.{IsWorld}
 
 -- the guest is there, and its plan has what is named
 pub record Named (w : WorldState) (guest : ℕ) (Has : GuestPlan → Type 0) : Type 0 where
@@ -18,7 +19,8 @@ pub record Named (w : WorldState) (guest : ℕ) (Has : GuestPlan → Type 0) : T
 pub named : (w : WorldState) (guest : ℕ) (Has : GuestPlan → Type 0) → GuestHas (plans_of w) guest Has → Named w guest Has
 named w guest Has (plan, there, has) =
     let lt : guest < length w.guests = rw length-map at (slice_get_within (plans_of w) guest plan there) in
-    let its : (guest_at w guest).plan ≡ plan = sym (get_or-map (λ (g : GuestState). g.plan) w.guests guest (opening_guest no_plan) no_plan lt) ∙ get_or_from_slice_get (plans_of w) guest plan no_plan there in
+    let its : (guest_at w guest).plan ≡ plan =
+    sym (get_or-map (λ (g : GuestState). g.plan) w.guests guest (opening_guest no_plan) no_plan lt) ∙ get_or_from_slice_get (plans_of w) guest plan no_plan there in
     record { below = lt; has = subst Has (sym its) has }
 
 -- a page that an event names is one of its guest's on the host

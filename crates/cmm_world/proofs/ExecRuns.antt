@@ -10,11 +10,13 @@ use Rattle.cmm_storage.specs.Program.{Program, done, take_page, touch_page, orde
 use Rattle.host_plain.specs.HostState.{HostState, HostStep, host_bytes}
 use Rattle.cmm_world.specs.Exec.{exec, answered, after_write}
 
-was_read : (d : DiskState) (block : ℕ) (r : Result Unit Failed) (bytes : List ℕ) (e : DiskState) → DiskStep d (Read block r bytes) e → (block_read r bytes ≡ answered (fails_next d.failures) (slice_index_or d.blocks block [])) × (e ≡ counted d)
+was_read : (d : DiskState) (block : ℕ) (r : Result Unit Failed) (bytes : List ℕ) (e : DiskState) → DiskStep d (Read block r bytes) e
+    → (block_read r bytes ≡ answered (fails_next d.failures) (slice_index_or d.blocks block [])) × (e ≡ counted d)
 was_read d block (Ok u) bytes e (fine, is, after) = (rw (fine, is) refl, after)
 was_read d block (Err failed) bytes e (fails, after) = (rw fails refl, after)
 
-was_written : (d : DiskState) (block : ℕ) (bytes : List ℕ) (r : Result Unit Failed) (e : DiskState) → DiskStep d (Write block bytes r) e → (r ≡ answered (fails_next d.failures) tt) × (e ≡ after_write d block bytes (fails_next d.failures))
+was_written : (d : DiskState) (block : ℕ) (bytes : List ℕ) (r : Result Unit Failed) (e : DiskState) → DiskStep d (Write block bytes r) e
+    → (r ≡ answered (fails_next d.failures) tt) × (e ≡ after_write d block bytes (fails_next d.failures))
 was_written d block bytes (Ok u) e (fine, after) = (rw fine refl, rw fine after)
 was_written d block bytes (Err failed) e (fails, after) = (rw fails refl, rw fails after)
 
@@ -33,5 +35,6 @@ module _ {S D : Type 0} (ss : S → StorageCall → S → Type 0) (ds : D → Di
       rw (all, q.1) at (does_exec (f r) m d a t e rest)
   does_exec (store_page p off bytes f) s d a t e (m, now, rest) = let q = sm s (Store p off bytes) m now in rw q at (does_exec f m d a t e rest)
   does_exec (put_page p f) s d a t e (m, now, rest) = let q = sm s (Put p) m now in rw q at (does_exec f m d a t e rest)
-  does_exec (read_block n f) s d a t e (r, bytes, m, now, rest) = let q = was_read (dv d) n r bytes (dv m) (dm d (Read n r bytes) m now) in rw (q.0, q.1) at (does_exec (f (block_read r bytes)) s m a t e rest)
+  does_exec (read_block n f) s d a t e (r, bytes, m, now, rest) =
+      let q = was_read (dv d) n r bytes (dv m) (dm d (Read n r bytes) m now) in rw (q.0, q.1) at (does_exec (f (block_read r bytes)) s m a t e rest)
   does_exec (write_block n bytes f) s d a t e (r, m, now, rest) = let q = was_written (dv d) n bytes r (dv m) (dm d (Write n bytes r) m now) in rw (q.0, q.1) at (does_exec (f r) s m a t e rest)

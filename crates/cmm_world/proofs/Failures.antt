@@ -17,8 +17,8 @@ use Rattle.host_plain.specs.Keeping.{faults_of}
 use Rattle.host_plain.proofs.PagerCalls.{touched_page-keeps}
 use Rattle.guest_rules.specs.GuestState.{GuestState, opening_guest}
 use Rattle.guest_rules.specs.Failures.{FailuresFit, paging_failures}
-use Rattle.cmm_world.specs.WorldState.{WorldState, guest_at, disk_at, view_of, no_plan}
-use Rattle.cmm_world.specs.WorldView.{IsWorld}
+use Rattle.cmm_world.specs.WorldState.{WorldState, guest_at, disk_at, no_plan}
+use Rattle.cmm_world.specs.WorldFit.{IsWorld, view_of}
 use Rattle.cmm_world.specs.Failures.{AreCounted, WorldCounted}
 use Rattle.cmm_world.specs.Exec.{exec, answered, after_write}
 use Rattle.cmm_world.proofs.ExecRuns.{does_exec}
@@ -100,7 +100,8 @@ failures_fit w guest world below = let before = world.failures guest below in re
 
 -- a guest took its turn
 pub counted_turn : (w : WorldState) (guest : ℕ) (g : GuestState) (k : HostState) (e : DiskState) → IsWorld w → guest < length w.guests → KeepsOthers (served w.host guest) k
-    → g.plan ≡ (guest_at w guest).plan → FailuresFit g (host_view k) (disk_view e) → PlansKept w guest k e → WorldCounted (record { guests = slice_set w.guests guest g; disks = slice_set w.disks guest e; host = k })
+    → g.plan ≡ (guest_at w guest).plan → FailuresFit g (host_view k) (disk_view e) → PlansKept w guest k e
+    → WorldCounted (record { guests = slice_set w.guests guest g; disks = slice_set w.disks guest e; host = k })
 counted_turn w guest g k e world below keeps plan failures kept i lt = elim (cases_eq i guest) [
   | inl same ↦ rw (same, get_or-set_same w.guests guest g (opening_guest no_plan) below, get_or-set_same w.disks guest e (opened [] 0 []) has_disk) its
   | inr other ↦ rw (get_or-set_other w.guests guest i g (opening_guest no_plan) other, get_or-set_other w.disks guest i e (opened [] 0 []) other, keeps.pagers i other)

@@ -10,11 +10,11 @@ use Rattle.host_plain.specs.HostState.{HostState, Leaves, HostMayMake, start_of,
 use Rattle.guest_rules.specs.GuestState.{GuestState, opening_guest}
 use Rattle.guest_rules.specs.Fit.{Fit}
 use Rattle.host_plain.proofs.Others.{places-apart}
-use Rattle.guest_rules.proofs.TurnCases.{AllMay}
-use Rattle.guest_rules.proofs.FitMay.{FitAt-may}
+use Rattle.guest_rules.proofs.Cases.TurnCases.{AllMay}
+use Rattle.guest_rules.proofs.Fit.FitMay.{FitAt-may}
 use Rattle.cmm_world.specs.WorldState.{WorldState, guest_at, disk_at, no_plan}
 use Rattle.cmm_world.specs.Failures.{AreCounted, WorldCounted}
-use Rattle.cmm_world.specs.WorldView.{IsWorld}
+use Rattle.cmm_world.specs.WorldFit.{IsWorld}
 
 -- what a guest's calls keep of the host: other guests' pages go as the host may change them
 pub record KeepsOthers (h k : HostState) : Type 0 where

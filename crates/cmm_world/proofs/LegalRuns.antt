@@ -1,6 +1,6 @@
 -- A world that played a plan's schedule shows that the plan's run is legal.
 use Rattle.std.specs.Prelude.{◌≡◌, ◌≤◌, List, [], ◌∷◌, length, map}
-use Rattle.std.proofs.Common.{refl, sym, ap, arith, ◌∙◌}
+use Rattle.std.proofs.Common.{refl, sym, ap, subst, arith, ◌∙◌}
 use Rattle.std.proofs.lemmas.List.{length-map}
 use Rattle.cmm_types.specs.declared.plan.GuestPlan.{GuestPlan}
 use Rattle.cmm_types.specs.declared.plan.Scenario.{Scenario}
@@ -11,12 +11,14 @@ use Rattle.cmm_io.proofs.Counted.{counted-most, distinct-none}
 use Rattle.cmm_flat.specs.Legal.{Legal, start_of}
 use Rattle.guest_rules.specs.GuestState.{GuestState, opening_guest}
 use Rattle.guest_rules.specs.Failures.{disk_failures, paging_failures}
-use Rattle.guest_rules.proofs.FailuresKept.{flat_replies}
-use Rattle.cmm_world.specs.WorldState.{WorldFit, opening_world}
-use Rattle.cmm_world.specs.WorldView.{plans_of}
+use Rattle.guest_rules.proofs.Causes.FailuresKept.{flat_replies}
+use Rattle.cmm_world.specs.WorldState.{opening_world}
+use Rattle.cmm_world.specs.WorldView.{WorldView, opening_view, plans_of}
+use Rattle.cmm_world.specs.WorldFit.{WorldFit, KeepsWorld}
 use Rattle.cmm_world.specs.Failures.{AreCounted, WorldCounted}
 use Rattle.cmm_world.specs.Run.{run_of}
-use Rattle.cmm_world.specs.Headline.{FailsAsPlanned, IsLegalRun, NoStepDiscardsWrongly}
+use Rattle.cmm_world.specs.Steps.{IsStepByStep, AtEach}
+use Rattle.cmm_world.specs.Headline.{FailsAsPlanned, IsLegalRun}
 use Rattle.cmm_world.proofs.Discards.{faults_few}
 
 opening_plans : (guests : List GuestPlan) → map (λ (g : GuestState). g.plan) (map opening_guest guests) ≡ guests
@@ -43,17 +45,19 @@ fails_as_planned g d pager legal counted = record {
     by_pager : paging_failures g.journal ≤ distinct g.plan.pager_fail
     by_pager = omega (arith, counted.by_pager, counted-most g.plan.pager_fail pager counted.pager_calls)
 
--- the world after the schedule has the plans, in it every guest fits, and no more commands failed than calls
-pub legal_run : (plan : Scenario) → plans_of (run_of plan).1 ≡ plans_of (opening_world plan) → WorldFit (run_of plan).1 → WorldCounted (run_of plan).1
-    → NoStepDiscardsWrongly (opening_world plan) plan.schedule → IsLegalRun plan
+-- a world that played the schedule, kept what it must, and did each event as its single steps
+pub legal_run : (plan : Scenario) (v : WorldView) → v.state ≡ (run_of plan).1 → KeepsWorld (opening_view plan) v → AtEach IsStepByStep (opening_world plan) plan.schedule → IsLegalRun plan
 unfolding opening_world
-legal_run plan plans fit failures discards =
-    let all : plans_of (run_of plan).1 ≡ plan.guests = plans ∙ opening_plans plan.guests in
-    let count : length (run_of plan).1.guests ≡ length plan.guests = sym (length-map (run_of plan).1.guests (λ g. g.plan)) ∙ ap length all in
+legal_run plan v state keeps steps =
+    let x = (run_of plan).1 in
+    let plans : plans_of x ≡ plan.guests = ap plans_of (sym state) ∙ keeps.plans ∙ opening_plans plan.guests in
+    let fit : WorldFit x = subst WorldFit state keeps.fit in
+    let failures : WorldCounted x = subst WorldCounted state keeps.failures in
+    let count : length x.guests ≡ length plan.guests = sym (length-map x.guests (λ g. g.plan)) ∙ ap length plans in
     record {
-      plans = all;
+      plans = plans;
       legal = λ guest below. (fit guest (rw count below)).journal.legal;
-      discards = discards;
-      faults = λ guest below. faults_few (run_of plan).1 guest fit (rw count below);
+      steps = steps;
+      faults = λ guest below. faults_few x guest fit (rw count below);
       failures = λ guest below. fails_as_planned _ _ _ (fit guest (rw count below)).journal.legal (failures guest (rw count below));
     }

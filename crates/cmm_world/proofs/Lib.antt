@@ -4,7 +4,11 @@ pub mod Kept
 pub mod Failures
 pub mod Discards
 pub mod Unbound
+pub mod Reaching
+pub mod EntryTurns
 pub mod TurnRuns
+pub mod AloneRuns
+pub mod Playing
 pub mod OpeningWorld
 pub mod Events
 pub mod HostSteps

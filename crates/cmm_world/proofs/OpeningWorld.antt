@@ -18,9 +18,9 @@ use Rattle.guest_rules.specs.GuestState.{GuestState, opening_guest}
 use Rattle.guest_rules.specs.Built.{GuestIsBuilt}
 use Rattle.guest_rules.specs.Fresh.{fresh_value}
 use Rattle.guest_rules.specs.Fit.{Fit}
-use Rattle.guest_rules.proofs.Opening.{Fit-opening}
+use Rattle.guest_rules.proofs.Opening.Opening.{Fit-opening}
 use Rattle.cmm_world.specs.WorldState.{WorldState, guest_at, disk_at, no_plan, opening_disk, opening_host, opening_world}
-use Rattle.cmm_world.specs.WorldView.{IsWorld}
+use Rattle.cmm_world.specs.WorldFit.{IsWorld}
 use Rattle.cmm_world.specs.Failures.{AreCounted}
 use Rattle.cmm_world.specs.Built.{IsBuilt}
 

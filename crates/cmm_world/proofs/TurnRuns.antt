@@ -1,38 +1,44 @@
 -- What a guest's turn on the plain host does to the world.
-use Rattle.std.specs.Prelude.{◌≡◌, ◌⊎◌, ◌<◌, ℕ, zero, suc, ◌+◌, [], length, slice_set, true, None}
-use Rattle.std.proofs.Common.{refl, sym, ap, inl, inr, arith, subst, ◌∙◌, length-set, get_or-set_same}
+use Rattle.std.specs.Prelude.{◌≡◌, ◌⊎◌, ◌<◌, ◌++◌, ℕ, List, [], ◌∷◌, length, drop, slice_set, true, false, Bool, Some}
+use Rattle.std.proofs.Common.{refl, sym, ap, inl, inr, arith, subst, ◌∙◌, get_or-set_same, get_or-set_other, get_or-take, get_or-drop}
 use Rattle.std.proofs.lemmas.Bool.{cases_eq}
+use Rattle.cmm_types.specs.declared.command.Entry.{Entry}
+use Rattle.cmm_types.specs.declared.command.Op.{Op}
+use Rattle.cmm_types.specs.declared.command.Op.TheVariants.{Load, Store}
+use Rattle.cmm_types.specs.declared.command.Reply.TheVariants.{Done, Bytes}
 use Rattle.cmm_types.specs.declared.plan.GuestPlan.{GuestPlan}
 use Rattle.cmm_types.specs.declared.turn.Turn.{Turn}
-use Rattle.cmm_types.specs.declared.turn.Turn.TheVariants.{Moved}
-use Rattle.cmm_types.specs.declared.turn.Alone.{Alone as AloneOutcome}
-use Rattle.cmm_types.specs.declared.event.Answer.TheVariants.{Turn as TurnAnswer, Alone as AloneAnswer}
-use Rattle.cmm_types.specs.declared.event.Event.TheVariants.{Cpu, Alone}
+use Rattle.cmm_types.specs.declared.turn.Turn.TheVariants.{Moved, Finished, Waits, Again, Idle}
+use Rattle.cmm_flat.specs.Legal.{command_of, process_of}
 use Rattle.cmm_io.specs.DiskCall.{DiskCall}
-use Rattle.cmm_io.specs.DiskState.{DiskState, DiskStep, disk_view, opened}
-use Rattle.cmm_io.specs.DiskView.{DiskFollows}
+use Rattle.cmm_io.specs.DiskState.{DiskState, DiskStep, disk_view}
+use Rattle.cmm_io.specs.DiskView.{DiskView, DiskFollows}
+use Rattle.essa_state.specs.declared.fields.Fields.{Fields}
+use Rattle.essa_state.specs.StateWord.{is_resident}
 use Rattle.essa_state.specs.PageValue.{PageValue, MayBecome, is_lost, may_lose}
 use Rattle.cmm_storage.specs.StorageCall.{StorageCall}
-use Rattle.cmm_storage.specs.StorageView.{Follows}
+use Rattle.cmm_storage.specs.StorageView.{StorageView, Follows}
 use Rattle.cmm_storage.specs.Program.{Does}
-use Rattle.cmm_storage.specs.Views.{Seen, does_seen}
-use Rattle.host_plain.specs.HostState.{HostState, HostStep, host_view, served}
-use Rattle.guest_rules.specs.GuestState.{GuestState, opening_guest}
+use Rattle.cmm_storage.specs.Views.{Seen, does_seen, page_of}
+use Rattle.host_plain.specs.MemoryState.{opening_word}
+use Rattle.host_plain.specs.HostState.{HostState, HostStep, Leaves, host_view, host_word, served, value_of, pages_of, start_of}
+use Rattle.guest_rules.specs.GuestState.{GuestState, opening_guest, processor_at}
 use Rattle.guest_rules.specs.Turns.{turn}
-use Rattle.guest_rules.specs.Alone.{alone, alone_within, alone_after, most_turns}
 use Rattle.guest_rules.specs.Fit.{Fit}
-use Rattle.guest_rules.specs.Cause.{NoWrongDiscard}
-use Rattle.guest_rules.proofs.TurnLaws.{Fit-turn, Discards-turn, plan-turn}
-use Rattle.guest_rules.proofs.FailuresKept.{Failures-turn, Failures-alone}
-use Rattle.cmm_world.specs.WorldState.{WorldState, guest_at, disk_at, view_of, no_plan}
-use Rattle.cmm_world.specs.WorldView.{IsWorld, NoWrongDiscards}
-use Rattle.cmm_world.specs.Run.{world_step, turned}
-use Rattle.cmm_world.specs.Headline.{TurnsDiscard}
+use Rattle.guest_rules.specs.Cause.{TurnCause, NoWrongDiscard}
+use Rattle.guest_rules.proofs.TurnLaws.{Fit-turn, Causes-turn, Discards-turn, plan-turn}
+use Rattle.guest_rules.specs.Failures.{FailuresFit}
+use Rattle.guest_rules.proofs.Causes.FailuresKept.{Failures-turn}
+use Rattle.cmm_world.specs.WorldState.{WorldState, guest_at, disk_at, no_plan}
+use Rattle.cmm_world.specs.WorldFit.{IsWorld, view_of}
+use Rattle.cmm_world.specs.Run.{turn_step, turned}
+use Rattle.cmm_world.specs.Steps.{NoWrongDiscards}
+use Rattle.cmm_world.specs.Reached.{HasReached, WasReached, Enters, word_in}
 use Rattle.cmm_world.proofs.ExecRuns.{does_exec}
 use Rattle.cmm_world.proofs.Carried.{carried}
-use Rattle.cmm_world.proofs.Unbound.{halfway}
-use Rattle.cmm_world.proofs.Failures.{plans_kept, failures_fit, counted_turn}
-use Rattle.cmm_world.proofs.Kept.{KeepsOthers, KeepsOthers-same, KeepsOthers-trans, MovesKeep, all_may, others_may, kept_turn}
+use Rattle.cmm_world.proofs.Failures.{PlansKept, plans_kept, failures_fit, counted_turn}
+use Rattle.cmm_world.proofs.Kept.{KeepsOthers, KeepsOthers-same, KeepsOthers-trans, MovesKeep, keeps_others, kept_turn}
+use Rattle.cmm_world.proofs.EntryTurns.{IsAnswer, IsLocated, IsMapped, one_more, same_entry, turn_located, load_mapped, store_mapped}
 
 -- the world after a guest's turns
 abbrev pub with_turn : WorldState → ℕ → GuestState → HostState → DiskState → WorldState
@@ -45,111 +51,207 @@ may_discard x y may lost = grind arith
 pub served_same : (k : HostState) (guest : ℕ) → k.guest ≡ guest → served k guest ≡ k
 served_same k guest same = ap (λ q. served k q) (sym same)
 
+-- a guest's pages are discarded only where they may be
+abbrev NoWrongAt : HostState → HostState → ℕ → Type 0
+NoWrongAt h k guest = (page : ℕ) → page < pages_of h guest → is_lost (value_of k guest page).contents ≡ true
+    → (is_lost (value_of h guest page).contents ≡ true) ⊎ (may_lose (value_of h guest page).usage (value_of h guest page).changed ≡ true)
+
 -- neither the guest's own pages nor another's are discarded wrongly
-pub discards_turn : (w : WorldState) (guest : ℕ) (g : GuestState) (k : HostState) (e : DiskState) → IsWorld w → KeepsOthers (served w.host guest) k → k.held ≡ None
+pub discards_turn : (w : WorldState) (guest : ℕ) (g : GuestState) (k : HostState) (e : DiskState) → IsWorld w → KeepsOthers (served w.host guest) k
     → NoWrongDiscard (view_of w guest) (host_view k) → NoWrongDiscards w (with_turn w guest g k e)
-discards_turn w guest g k e world keeps held own i lt = elim (cases_eq i guest) [
-  | inl same ↦
-      subst (λ q. NoWrongDiscard (view_of w q) (host_view (served k q))) (sym same)
-      (subst (λ (q : HostState). NoWrongDiscard (view_of w guest) (host_view q)) (sym (served_same k guest keeps.serves)) own)
-  | inr other ↦
-      (λ page below lost.
-      may_discard _ _ ((others_may (served w.host guest) k (disk_view e) i keeps (rw world.pagers lt) other world.none_held held).values page below) lost)
+discards_turn w guest g k e world keeps own i page lt below lost = elim (cases_eq i guest) [
+  | inl same ↦ subst (NoWrongAt w.host k) (sym same) mine page below lost
+  | inr other ↦ may_discard _ _ (keeps.others i page (rw world.pagers lt) other below) lost
 ]
+  where
+    mine : NoWrongAt w.host k guest
+    mine = subst (λ q. (page : ℕ) → page < pages_of w.host guest → is_lost (value_of k q page).contents ≡ true
+        → (is_lost (value_of w.host guest page).contents ≡ true) ⊎ (may_lose (value_of w.host guest page).usage (value_of w.host guest page).changed ≡ true)) keeps.serves own
+
+-- the host's own moves discard nothing wrongly
+pub discards_moves : (w : WorldState) (k : HostState) → MovesKeep w.host k → NoWrongDiscards w (record { guests = w.guests; disks = w.disks; host = k })
+discards_moves w k keeps i page lt below lost = may_discard _ _ (keeps.pages i page) lost
+
+-- no guest's journal changed
+abbrev pub SameJournals : WorldState → WorldState → Type 0
+SameJournals w x = (guest : ℕ) → (guest_at x guest).journal ≡ (guest_at w guest).journal
+
+-- where no journal changed, nothing was entered
+pub HasReached-none : (w x : WorldState) → SameJournals w x → HasReached w x
+HasReached-none w x same = record {
+  loads = λ guest cpu k number off len bytes got. absurd (one_more (guest_at w guest).journal _ (sym (same guest) ∙ got));
+  stores = λ guest cpu k number off bytes got. absurd (one_more (guest_at w guest).journal _ (sym (same guest) ∙ got));
+}
+
+enters_then : (w m x : WorldState) (guest : ℕ) (entry : Entry) → SameJournals w m → Enters w x guest entry → Enters m x guest entry
+enters_then w m x guest entry same got = got ∙ ap (λ (xs : List Entry). xs ++ entry ∷ []) (sym (same guest))
+
+-- turns that entered nothing, and then others
+pub HasReached-then : (w m x : WorldState) → SameJournals w m → HasReached m x → HasReached w x
+HasReached-then w m x same later = record {
+  loads = λ guest cpu k number off len bytes got.
+      later.loads guest cpu k number off len bytes (enters_then w m x guest (record { cpu = cpu; k = k; op = Load number off len; reply = Bytes bytes }) same got);
+  stores = λ guest cpu k number off bytes got.
+      later.stores guest cpu k number off bytes (enters_then w m x guest (record { cpu = cpu; k = k; op = Store number off bytes; reply = Done }) same got);
+}
+
+-- the word of the served guest's page stands in the list of its words
+word_in-host : (w : WorldState) (page : ℕ) → page < pages_of w.host w.host.guest → word_in w w.host.guest page ≡ host_word w.host page
+word_in-host w page below =
+    get_or-take (pages_of w.host w.host.guest) (drop (start_of w.host w.host.guest) w.host.memory.words) page opening_word below
+    ∙ get_or-drop (start_of w.host w.host.guest) w.host.memory.words page opening_word
+
+was_reached : (w : WorldState) (guest process number off : ℕ) (writes : Bool) → w.host.guest ≡ guest → IsLocated (guest_at w guest).parts process number off writes w.host
+    → WasReached w guest process number off writes
+was_reached w guest process number off writes serves x =
+    let word : word_in w guest x.pte.page ≡ host_word w.host x.pte.page =
+    subst (λ q. word_in w q x.pte.page ≡ host_word w.host x.pte.page) serves (word_in-host w x.pte.page x.reached.below) in
+    record {
+      slot = x.slot;
+      pte = x.pte;
+      found = x.found;
+      entry = x.entry;
+      resident = ap (λ (q : Fields). is_resident q.content) word ∙ x.reached.resident;
+      referenced = ap (λ (q : Fields). q.referenced) word ∙ x.reached.referenced;
+      changed = λ is_written. ap (λ (q : Fields). q.changed) word ∙ x.reached.changed is_written;
+    }
+
+-- a turn that entered something finished, and this was the processor's command
+pub record Entered (g : GuestState) (cpu : ℕ) (r : Turn) (entry : Entry) : Type 0 where
+  pub finished : r ≡ Finished
+  pub command : command_of g.plan cpu (processor_at g cpu).place ≡ Some entry.op
+  pub its : entry.cpu ≡ cpu
+
+entered_by : (g h : GuestState) (v w : StorageView) (d e : DiskView) (cpu : ℕ) (r : Turn) (entry : Entry) → TurnCause g v d cpu r h w e → h.journal ≡ g.journal ++ entry ∷ [] → Entered g cpu r entry
+entered_by g h v w d e cpu Moved entry cause got = absurd (one_more g.journal entry (sym cause.answer.0.journal ∙ got))
+entered_by g h v w d e cpu Finished entry cause got =
+    let same = same_entry g.journal _ entry (sym cause.answer.entry ∙ got) in
+    record {
+      finished = refl;
+      command = cause.answer.command ∙ ap (λ (x : Entry). Some x.op) same;
+      its = sym (ap (λ (x : Entry). x.cpu) same);
+    }
+entered_by g h v w d e cpu (Waits page owner) entry cause got = absurd (one_more g.journal entry (sym (ap (λ (q : GuestState). q.journal) cause.answer.0) ∙ got))
+entered_by g h v w d e cpu (Again why) entry cause got = elim cause.answer.0.tables [
+  | inl same ↦ absurd (one_more g.journal entry (sym (ap (λ (q : GuestState). q.journal) same) ∙ got))
+  | inr changed ↦ absurd (one_more g.journal entry (sym (ap (λ (q : GuestState). q.journal) changed.1) ∙ got))
+]
+entered_by g h v w d e cpu Idle entry cause got = absurd (one_more g.journal entry (sym (ap (λ (q : GuestState). q.journal) cause.answer.0) ∙ got))
 
 -- what a guest's turn leaves of the world
 pub record AfterTurn (w : WorldState) (guest cpu : ℕ) (h : GuestState) (r : Turn) (k : HostState) (e : DiskState) : Type 0 where
-  pub step : (TurnAnswer r, with_turn w guest h k e) ≡ world_step w (Cpu guest cpu)
+  pub step : turn_step w guest cpu ≡ (r, with_turn w guest h k e)
   pub world : IsWorld (with_turn w guest h k e)
   pub discards : NoWrongDiscards w (with_turn w guest h k e)
+  pub reached : HasReached w (with_turn w guest h k e)
+  pub moved : r ≡ Moved → SameJournals w (with_turn w guest h k e)
   pub plan : h.plan ≡ (guest_at w guest).plan
   pub serves : k.guest ≡ guest
-
--- what the turns of a processor that goes on alone leave of the world
-pub record AfterAlone (w : WorldState) (guest cpu : ℕ) (h : GuestState) (a : AloneOutcome) (k : HostState) (e : DiskState) : Type 0 where
-  pub step : (AloneAnswer a, with_turn w guest h k e) ≡ world_step w (Alone guest cpu)
-  pub world : IsWorld (with_turn w guest h k e)
-  pub discards : TurnsDiscard most_turns w guest cpu
 
 module _ {S D : Type 0} (ss : S → StorageCall → S → Type 0) (ds : D → DiskCall → D → Type 0) (sv : S → HostState) (dv : D → DiskState)
     (sm : (s : S) (call : StorageCall) (t : S) → ss s call t → HostStep (sv s) call (sv t))
     (dm : (d : D) (call : DiskCall) (e : D) → ds d call e → DiskStep (dv d) call (dv e))
     (sf : (s : S) (call : StorageCall) (t : S) → ss s call t → Follows (host_view (sv s)) call (host_view (sv t)))
     (df : (d : D) (call : DiskCall) (e : D) → ds d call e → DiskFollows (disk_view (dv d)) call (disk_view (dv e)))
-    (sk : (s : S) (call : StorageCall) (t : S) → ss s call t → KeepsOthers (sv s) (sv t)) where
+    (sl : (s : S) (call : StorageCall) (t : S) → ss s call t → Leaves (sv s) (page_of call) (sv t)) where
   seen : (g : GuestState) (cpu : ℕ) (s : S) (d : D) (h : GuestState) (r : Turn) (t : S) (e : D) → Does ss ds (turn g cpu) s d (h, r) t e
       → Seen {A = GuestState × Turn} (turn g cpu) (host_view (sv s)) (disk_view (dv d)) (h, r) (host_view (sv t)) (disk_view (dv e))
   seen g cpu s d h r t e run = does_seen ss ds (λ q. host_view (sv q)) (λ q. disk_view (dv q)) sf df (turn g cpu) s d (h, r) t e run
 
   keeps : (g : GuestState) (cpu : ℕ) (s : S) (d : D) (h : GuestState) (r : Turn) (t : S) (e : D) → Does ss ds (turn g cpu) s d (h, r) t e → KeepsOthers (sv s) (sv t)
   keeps g cpu s d h r t e run =
-      carried ss ds (λ s t. KeepsOthers (sv s) (sv t)) (λ s t same. KeepsOthers-same (sv s) (sv t) (ap sv same)) (λ s m t. KeepsOthers-trans (sv s) (sv m) (sv t)) sk (turn g cpu) s d (h, r) t e run
+      carried ss ds (λ s t. KeepsOthers (sv s) (sv t)) (λ s t same. KeepsOthers-same (sv s) (sv t) (ap sv same)) (λ s m t. KeepsOthers-trans (sv s) (sv m) (sv t))
+      (λ s call t q. keeps_others (sv s) (page_of call) (sv t) (sl s call t q)) (turn g cpu) s d (h, r) t e run
+
+  -- the page of a load or a store that the guest's turn entered
+  turn_reached : (w : WorldState) (guest cpu : ℕ) (s : S) (d : D) (h : GuestState) (r : Turn) (t : S) (e : D) (op : Op) (number off : ℕ) (writes : Bool) (entry : Entry) → guest < length w.guests
+      → h.plan ≡ (guest_at w guest).plan → (sv t).guest ≡ guest → Entered (guest_at w guest) cpu r entry → entry.op ≡ op → IsAnswer entry.reply
+      → IsMapped ss ds sv sm sl (guest_at w guest) cpu op number off writes → Does ss ds (turn (guest_at w guest) cpu) s d (h, r) t e
+      → h.journal ≡ (guest_at w guest).journal ++ entry ∷ []
+      → WasReached (with_turn w guest h (sv t) (dv e)) guest (process_of (guest_at (with_turn w guest h (sv t) (dv e)) guest).plan entry.cpu) number off writes
+  turn_reached w guest cpu s d h r t e op number off writes entry below plan serves entered is_op answer mapped run got =
+      let x = with_turn w guest h (sv t) (dv e) in
+      let g = guest_at w guest in
+      let here : guest_at x guest ≡ h = get_or-set_same w.guests guest h (opening_guest no_plan) below in
+      let located : IsLocated h.parts (process_of g.plan cpu) number off writes (sv t) =
+      turn_located ss ds sv sm sl g cpu op number off writes s d h t e entry (record { got = got; answer = answer }) mapped (entered.command ∙ ap (λ (o : Op). Some o) is_op)
+      (subst (λ q. Does ss ds (turn g cpu) s d (h, q) t e) entered.finished run) in
+      let process : process_of g.plan cpu ≡ process_of (guest_at x guest).plan entry.cpu =
+      ap (λ (q : GuestPlan). process_of q cpu) (sym plan ∙ ap (λ (q : GuestState). q.plan) (sym here)) ∙ ap (process_of (guest_at x guest).plan) (sym entered.its) in
+      subst (λ p. WasReached x guest p number off writes) process
+      (was_reached x guest (process_of g.plan cpu) number off writes serves (subst (λ (q : GuestState). IsLocated q.parts (process_of g.plan cpu) number off writes (sv t)) (sym here) located))
 
   pub after_turn : (w : WorldState) (guest cpu : ℕ) (s : S) (d : D) (h : GuestState) (r : Turn) (t : S) (e : D) → IsWorld w → guest < length w.guests
-      → sv s ≡ served w.host guest → dv d ≡ disk_at w guest → cpu < length (guest_at w guest).processors → Does ss ds (turn (guest_at w guest) cpu) s d (h, r) t e → AfterTurn w guest cpu h r (sv t) (dv e)
-  unfolding world_step
-  after_turn w guest cpu s d h r t e world below is_host is_disk has_cpu run =
-      let ran = seen (guest_at w guest) cpu s d h r t e run in
-      let fit : Fit (guest_at w guest) (host_view (sv s)) (disk_view (dv d)) = rw (is_host, is_disk) (world.fit guest below) in
-      let kept : KeepsOthers (served w.host guest) (sv t) = subst (λ q. KeepsOthers q (sv t)) is_host (keeps (guest_at w guest) cpu s d h r t e run) in
-      let fit' = Fit-turn (guest_at w guest) cpu _ _ h r _ _ fit has_cpu ran in
-      let own = subst (λ (q : HostState). NoWrongDiscard (host_view q) (host_view (sv t))) is_host (Discards-turn (guest_at w guest) cpu _ _ h r _ _ fit has_cpu ran) in
-      let plan = plan-turn (guest_at w guest) cpu _ _ h r _ _ fit has_cpu ran in
-      let failures = Failures-turn (guest_at w guest) cpu _ _ h r _ _ fit has_cpu ran (rw (is_host, is_disk) (failures_fit w guest world below)) in
-      let plans = plans_kept ss ds sv dv sm dm (turn (guest_at w guest) cpu) w guest s d (h, r) t e world below is_host is_disk run in
-      record {
-        step = ap (turned TurnAnswer w guest) (does_exec ss ds sv dv sm dm (turn (guest_at w guest) cpu) s d (h, r) t e run ∙ rw (is_host, is_disk) refl);
-        world = kept_turn w guest h (sv t) (dv e) world below kept fit'.hints.none_held fit' (counted_turn w guest h (sv t) (dv e) world below kept plan failures plans);
-        discards = discards_turn w guest h (sv t) (dv e) world kept fit'.hints.none_held own;
-        plan = plan;
-        serves = kept.serves;
-      }
+      → sv s ≡ served w.host guest → dv d ≡ disk_at w guest → cpu < length (guest_at w guest).processors → Does ss ds (turn (guest_at w guest) cpu) s d (h, r) t e
+      → AfterTurn w guest cpu h r (sv t) (dv e)
+  after_turn w guest cpu s d h r t e world below is_host is_disk has_cpu run = record {
+    step = ap (turned w guest) (sym (does_exec ss ds sv dv sm dm (turn g cpu) s d (h, r) t e run ∙ rw (is_host, is_disk) refl));
+    world = kept_turn w guest h (sv t) (dv e) world below kept fit'.hints.none_held fit' (counted_turn w guest h (sv t) (dv e) world below kept plan failures plans);
+    discards = discards_turn w guest h (sv t) (dv e) world kept own;
+    reached = record {
+      loads = λ i c n number off len bytes got. reached i (record { cpu = c; k = n; op = Load number off len; reply = Bytes bytes }) (Load number off len) number off false
+          (load_mapped ss ds sv sm sl g cpu number off len) refl tt got;
+      stores = λ i c n number off bytes got. reached i (record { cpu = c; k = n; op = Store number off bytes; reply = Done }) (Store number off bytes) number off true
+          (store_mapped ss ds sv sm sl g cpu number off bytes) refl tt got;
+    };
+    moved = λ is_moved i. elim (cases_eq i guest) [
+      | inl same ↦ subst (λ q. (guest_at x q).journal ≡ (guest_at w q).journal) (sym same) (ap (λ (q : GuestState). q.journal) here ∙ (moved_cause is_moved).answer.0.journal)
+      | inr other ↦ ap (λ (q : GuestState). q.journal) (get_or-set_other w.guests guest i h (opening_guest no_plan) other)
+    ];
+    plan = plan;
+    serves = kept.serves;
+  }
+    where
+      g : GuestState
+      g = guest_at w guest
 
-  -- the turns of a processor that goes on alone, each a step of the world
-  pub turns_discard : (left turns : ℕ) (w : WorldState) (guest cpu : ℕ) (s : S) (d : D) (h : GuestState) (a : AloneOutcome) (t : S) (e : D) → IsWorld w → guest < length w.guests
-      → sv s ≡ served w.host guest → dv d ≡ disk_at w guest → cpu < length (guest_at w guest).processors
-      → Does ss ds (alone_within left turns (guest_at w guest) cpu) s d (h, a) t e → TurnsDiscard left w guest cpu
-  turns_discard zero turns w guest cpu s d h a t e world below is_host is_disk has_cpu run = tt
-  turns_discard (suc left) turns w guest cpu s d h a t e world below is_host is_disk has_cpu run =
-      let x = halfway ss ds (turn (guest_at w guest) cpu) (λ went. alone_after (λ g. alone_within left (turns + 1) g cpu) turns went.0 went.1) s d (h, a) t e run in
-      let next = after_turn w guest cpu s d x.answer.0 x.answer.1 x.storage x.disk world below is_host is_disk has_cpu x.first in
-      let w1 = with_turn w guest x.answer.0 (sv x.storage) (dv x.disk) in
-      let here : guest_at w1 guest ≡ x.answer.0 = get_or-set_same w.guests guest x.answer.0 (opening_guest no_plan) below in
-      let disk : dv x.disk ≡ disk_at w1 guest = sym (get_or-set_same w.disks guest (dv x.disk) (opened [] 0 []) (rw world.disks below)) in
-      let host : sv x.storage ≡ served w1.host guest = sym (served_same (sv x.storage) guest next.serves) in
-      let below' : guest < length w1.guests = rw length-set below in
-      let count : length (guest_at w1 guest).processors ≡ length (guest_at w guest).processors =
-      (next.world.fit guest below').sizes.processors ∙ ap (λ (q : GuestPlan). length q.cpus) (ap (λ (q : GuestState). q.plan) here ∙ next.plan) ∙ sym (world.fit guest below).sizes.processors in
-      let steps : world_step w (Cpu guest cpu) ≡ (TurnAnswer x.answer.1, w1) = sym next.step in
-      rw steps (
-        next.discards,
-        λ moved.
-            let is_moved : x.answer.1 ≡ Moved = cc in
-            let rest : Does ss ds (alone_within left (turns + 1) x.answer.0 cpu) x.storage x.disk (h, a) t e =
-            subst (λ r. Does ss ds (alone_after (λ g. alone_within left (turns + 1) g cpu) turns x.answer.0 r) x.storage x.disk (h, a) t e) is_moved x.second in
-            turns_discard left (turns + 1) w1 guest cpu x.storage x.disk h a t e next.world below' host disk (rw count has_cpu)
-            (subst (λ g. Does ss ds (alone_within left (turns + 1) g cpu) x.storage x.disk (h, a) t e) (sym here) rest),
-      )
+      x : WorldState
+      x = with_turn w guest h (sv t) (dv e)
 
-  pub after_alone : (w : WorldState) (guest cpu : ℕ) (s : S) (d : D) (h : GuestState) (a : AloneOutcome) (t : S) (e : D) → IsWorld w → guest < length w.guests
-      → sv s ≡ served w.host guest → dv d ≡ disk_at w guest → cpu < length (guest_at w guest).processors → Fit h (host_view (sv t)) (disk_view (dv e)) → h.plan ≡ (guest_at w guest).plan
-      → Does ss ds (alone (guest_at w guest) cpu) s d (h, a) t e → AfterAlone w guest cpu h a (sv t) (dv e)
-  unfolding world_step
-  after_alone w guest cpu s d h a t e world below is_host is_disk has_cpu fit' plan run =
-      let kept : KeepsOthers (served w.host guest) (sv t) =
-      subst (λ q. KeepsOthers q (sv t)) is_host
-      (carried ss ds (λ s t. KeepsOthers (sv s) (sv t)) (λ s t same. KeepsOthers-same (sv s) (sv t) (ap sv same)) (λ s m t. KeepsOthers-trans (sv s) (sv m) (sv t)) sk (alone (guest_at w guest) cpu) s d (h, a) t e run) in
-      let fit : Fit (guest_at w guest) (host_view (sv s)) (disk_view (dv d)) = rw (is_host, is_disk) (world.fit guest below) in
-      let ran = does_seen ss ds (λ q. host_view (sv q)) (λ q. disk_view (dv q)) sf df (alone (guest_at w guest) cpu) s d (h, a) t e run in
-      let failures = Failures-alone (guest_at w guest) cpu _ _ h a _ _ refl fit has_cpu ran (rw (is_host, is_disk) (failures_fit w guest world below)) in
-      let plans = plans_kept ss ds sv dv sm dm (alone (guest_at w guest) cpu) w guest s d (h, a) t e world below is_host is_disk run in
-      record {
-        step = ap (turned AloneAnswer w guest) (does_exec ss ds sv dv sm dm (alone (guest_at w guest) cpu) s d (h, a) t e run ∙ rw (is_host, is_disk) refl);
-        world = kept_turn w guest h (sv t) (dv e) world below kept fit'.hints.none_held fit' (counted_turn w guest h (sv t) (dv e) world below kept plan failures plans);
-        discards = turns_discard most_turns 0 w guest cpu s d h a t e world below is_host is_disk has_cpu run;
-      }
+      ran : Seen {A = GuestState × Turn} (turn g cpu) (host_view (sv s)) (disk_view (dv d)) (h, r) (host_view (sv t)) (disk_view (dv e))
+      ran = seen g cpu s d h r t e run
 
--- the host's own moves discard nothing wrongly
-pub discards_moves : (w : WorldState) (k : HostState) → IsWorld w → MovesKeep w.host k → NoWrongDiscards w (record { guests = w.guests; disks = w.disks; host = k })
-discards_moves w k world keeps i lt page below lost =
-    may_discard _ _ ((all_may w.host k (disk_view (disk_at w i)) i keeps (rw world.pagers lt) world.none_held).values page below) lost
+      here : guest_at x guest ≡ h
+      here = get_or-set_same w.guests guest h (opening_guest no_plan) below
+
+      fit : Fit g (host_view (sv s)) (disk_view (dv d))
+      fit = rw (is_host, is_disk) (world.fit guest below)
+
+      fit' : Fit h (host_view (sv t)) (disk_view (dv e))
+      fit' = Fit-turn g cpu _ _ h r _ _ fit has_cpu ran
+
+      kept : KeepsOthers (served w.host guest) (sv t)
+      kept = subst (λ q. KeepsOthers q (sv t)) is_host (keeps g cpu s d h r t e run)
+
+      own : NoWrongDiscard (view_of w guest) (host_view (sv t))
+      own = subst (λ (q : HostState). NoWrongDiscard (host_view q) (host_view (sv t))) is_host (Discards-turn g cpu _ _ h r _ _ fit has_cpu ran)
+
+      plan : h.plan ≡ g.plan
+      plan = plan-turn g cpu _ _ h r _ _ fit has_cpu ran
+
+      failures : FailuresFit h (host_view (sv t)) (disk_view (dv e))
+      failures = Failures-turn g cpu _ _ h r _ _ fit has_cpu ran (rw (is_host, is_disk) (failures_fit w guest world below))
+
+      plans : PlansKept w guest (sv t) (dv e)
+      plans = plans_kept ss ds sv dv sm dm (turn g cpu) w guest s d (h, r) t e world below is_host is_disk run
+
+      cause : TurnCause g (host_view (sv s)) (disk_view (dv d)) cpu r h (host_view (sv t)) (disk_view (dv e))
+      cause = Causes-turn g cpu _ _ h r _ _ fit has_cpu ran
+
+      moved_cause : r ≡ Moved → TurnCause g (host_view (sv s)) (disk_view (dv d)) cpu Moved h (host_view (sv t)) (disk_view (dv e))
+      moved_cause is_moved = subst (λ q. TurnCause g (host_view (sv s)) (disk_view (dv d)) cpu q h (host_view (sv t)) (disk_view (dv e))) is_moved cause
+
+      mine : (entry : Entry) (op : Op) (number off : ℕ) (writes : Bool) → IsMapped ss ds sv sm sl g cpu op number off writes → entry.op ≡ op → IsAnswer entry.reply → Enters w x guest entry
+          → WasReached x guest (process_of (guest_at x guest).plan entry.cpu) number off writes
+      mine entry op number off writes mapped is_op answer got =
+          let journal : h.journal ≡ g.journal ++ entry ∷ [] = sym (ap (λ (q : GuestState). q.journal) here) ∙ got in
+          turn_reached w guest cpu s d h r t e op number off writes entry below plan kept.serves (entered_by g h _ _ _ _ cpu r entry cause journal) is_op answer mapped run journal
+
+      reached : (i : ℕ) (entry : Entry) (op : Op) (number off : ℕ) (writes : Bool) → IsMapped ss ds sv sm sl g cpu op number off writes → entry.op ≡ op → IsAnswer entry.reply → Enters w x i entry
+          → WasReached x i (process_of (guest_at x i).plan entry.cpu) number off writes
+      reached i entry op number off writes mapped is_op answer got = elim (cases_eq i guest) [
+        | inl same ↦ subst (λ q. Enters w x q entry → WasReached x q (process_of (guest_at x q).plan entry.cpu) number off writes) (sym same) (mine entry op number off writes mapped is_op answer) got
+        | inr other ↦
+            let same : (guest_at x i).journal ≡ (guest_at w i).journal = ap (λ (q : GuestState). q.journal) (get_or-set_other w.guests guest i h (opening_guest no_plan) other) in
+            absurd (one_more (guest_at w i).journal entry (sym same ∙ got))
+      ]

@@ -4,4 +4,8 @@ pub mod Run
 pub mod Built
 pub mod Failures
 pub mod WorldView
+pub mod WorldFit
+pub mod Steps
+pub mod Reached
+pub mod Played
 pub mod Headline

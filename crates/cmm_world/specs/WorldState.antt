@@ -1,14 +1,13 @@
 -- A world: its guests, their disks, and the host that has their pages; and how it opens.
-use Rattle.std.specs.Prelude.{ℕ, ◌<◌, List, [], map, length, replicate, slice_index_or}
+use Rattle.std.specs.Prelude.{ℕ, List, [], map, replicate, slice_index_or}
 use Rattle.cmm_types.specs.declared.plan.GuestPlan.{GuestPlan}
 use Rattle.cmm_types.specs.declared.plan.Scenario.{Scenario}
 use Rattle.cmm_types.specs.InRange.{guest_pages_of}
 use Rattle.cmm_io.specs.FailurePlan.{plan_of}
-use Rattle.cmm_io.specs.DiskState.{DiskState, opened, disk_view}
-use Rattle.cmm_storage.specs.StorageView.{StorageView, zeros}
-use Rattle.host_plain.specs.HostState.{HostState, opening, served, host_view}
+use Rattle.cmm_io.specs.DiskState.{DiskState, opened}
+use Rattle.cmm_storage.specs.StorageView.{zeros}
+use Rattle.host_plain.specs.HostState.{HostState, opening}
 use Rattle.guest_rules.specs.GuestState.{GuestState, opening_guest}
-use Rattle.guest_rules.specs.Fit.{Fit}
 
 pub record WorldState : Type 0 where
   pub guests : List GuestState
@@ -24,10 +23,6 @@ guest_at w guest = slice_index_or w.guests guest (opening_guest no_plan)
 abbrev pub disk_at : WorldState → ℕ → DiskState
 disk_at w guest = slice_index_or w.disks guest (opened [] 0 [])
 
--- what a guest may know of its pages
-abbrev pub view_of : WorldState → ℕ → StorageView
-view_of w guest = host_view (served w.host guest)
-
 -- a guest's disk: its files and swap slots, with the calls that are planned to fail
 abbrev pub opening_disk : GuestPlan → DiskState
 opening_disk plan = opened plan.files plan.swap plan.disk_fail
@@ -40,7 +35,3 @@ opening_host plan =
 
 unfoldable pub opening_world : Scenario → WorldState
 opening_world plan = record { guests = map opening_guest plan.guests; disks = map opening_disk plan.guests; host = opening_host plan }
-
--- each guest fits its pages and its disk
-abbrev pub WorldFit : WorldState → Type 0
-WorldFit w = (guest : ℕ) → guest < length w.guests → Fit (guest_at w guest) (view_of w guest) (disk_view (disk_at w guest))

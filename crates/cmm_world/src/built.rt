@@ -8,17 +8,17 @@ use cmm_types::{CpuPlan, GuestPlan, Op, Scenario, file_pages};
 fn is_built_op(op: &Op) -> bool
     ensures { IsTrue result ↔ IsBuiltOp op.now }
 {
-    matches!(
-        op,
+    match op {
         Op::Read { .. }
-            | Op::Write { .. }
-            | Op::Sync { .. }
-            | Op::MapFile { .. }
-            | Op::Load { .. }
-            | Op::Store { .. }
-            | Op::Pin { .. }
-            | Op::Unpin { .. }
-    )
+        | Op::Write { .. }
+        | Op::Sync { .. }
+        | Op::MapFile { .. }
+        | Op::Load { .. }
+        | Op::Store { .. }
+        | Op::Pin { .. }
+        | Op::Unpin { .. } => true,
+        Op::MapAnon { .. } | Op::Unmap { .. } => false,
+    }
 }
 
 fn has_built_commands(cpu: &CpuPlan) -> bool

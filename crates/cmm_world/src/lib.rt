@@ -3,6 +3,8 @@
 
 mod built;
 mod open;
+#[cfg(test)]
+mod tests;
 mod world;
 
 pub use built::is_built;

@@ -4,11 +4,13 @@ ghost use Rattle.cmm_types.specs.declared.event.Answer.TheVariants.{Turn as Turn
 ghost use Rattle.cmm_types.specs.declared.plan.TheConstants.{MAX_GUEST_PAGES};
 ghost use Rattle.cmm_types.specs.InRange.{EventInRange, ScenarioInRange};
 ghost use Rattle.cmm_world.specs.Built.{IsBuilt};
-ghost use Rattle.cmm_world.specs.WorldState.{WorldState, WorldFit, guest_at, disk_at};
+ghost use Rattle.cmm_world.specs.WorldState.{WorldState, guest_at, disk_at};
 ghost use Rattle.cmm_world.specs.WorldView.{WorldView, opening_view, plans_of, words_in};
-ghost use Rattle.cmm_world.specs.Failures.{WorldCounted};
-ghost use Rattle.cmm_world.specs.Run.{world_step, move_answer, answers_of, world_after};
-ghost use Rattle.cmm_world.specs.Headline.{EventDiscards, NoStepDiscardsWrongly};
+ghost use Rattle.cmm_world.specs.WorldFit.{KeepsWorld};
+ghost use Rattle.cmm_world.specs.Run.{move_answer, answers_of, world_after};
+ghost use Rattle.cmm_world.specs.Steps.{IsStepByStep, AtEach};
+ghost use Rattle.cmm_world.specs.Reached.{ReachesPages};
+ghost use Rattle.cmm_world.specs.Played.{PlaysEvent};
 
 use crate::open::{open_disks, open_guests, open_host};
 use cmm_io::MemDisk;
@@ -33,7 +35,8 @@ pub struct World {
 impl Model for World {
     ghost use Rattle.std.specs.Prelude.{◌≤◌, vec_capacity};
     ghost use Rattle.cmm_world.specs.WorldState.{WorldState};
-    ghost use Rattle.cmm_world.specs.WorldView.{WorldView, IsWorld};
+    ghost use Rattle.cmm_world.specs.WorldView.{WorldView};
+    ghost use Rattle.cmm_world.specs.WorldFit.{IsWorld};
 
     ghost Value = { WorldView };
 
@@ -79,11 +82,14 @@ impl World {
         requires room { length self.old.answers + length events.now ≤ self.old.events }
         ensures answers { self.new.answers ≡ self.old.answers ++ answers_of self.old.state events.now }
         ensures state { self.new.state ≡ world_after self.old.state events.now }
-        ensures plans { plans_of self.new.state ≡ plans_of self.old.state }
-        ensures fit { WorldFit self.new.state }
-        ensures failures { WorldCounted self.new.state }
-        ensures discards { NoStepDiscardsWrongly self.old.state events.now }
-        ensures room { self.new.events ≡ self.old.events }
+
+        // Each event is its single steps, none of which discards wrongly.
+        ensures steps { AtEach IsStepByStep self.old.state events.now }
+
+        // Each load and store that was neither refused nor failed has reached its page.
+        ensures reached { AtEach ReachesPages self.old.state events.now }
+
+        ensures kept { KeepsWorld self.old self.new }
     {
         self.fits();
         for event in events {
@@ -92,25 +98,11 @@ impl World {
         }
     }
 
-    /// One event: a processor's turn or turns, a move of the host on a page, or the reclaiming of frames.
+    /// One event: a processor's turn or turns, a move of the host on a page, or the reclaiming of frames. Its answer isn't
+    /// kept.
     pub fn event(&mut self, event: &Event) -> Answer
-        requires range { EventInRange (plans_of self.old.state) event.now }
-
-        // The step determines the answer and the world after it.
-        ensures step { (result, self.new.state) ≡ world_step self.old.state event.now }
-
-        // Each guest fits its pages and its disk, whatever the order of events.
-        ensures fit { WorldFit self.new.state }
-
-        // No more commands failed than calls, and no more calls than were planned to.
-        ensures failures { WorldCounted self.new.state }
-
-        // A page becomes discarded only where it was volatile, or potentially volatile and unchanged.
-        ensures discards { EventDiscards self.old.state event.now }
-
-        ensures plans { plans_of self.new.state ≡ plans_of self.old.state }
-        ensures answers { self.new.answers ≡ self.old.answers }
-        ensures room { self.new.events ≡ self.old.events }
+        requires { EventInRange (plans_of self.old.state) event.now }
+        ensures { PlaysEvent self.old event.now result self.new }
     {
         match event {
             Event::Cpu { guest, cpu } => Answer::Turn(self.turn(*guest, *cpu)),
@@ -126,61 +118,36 @@ impl World {
 
     // What the type keeps, as a fact: nothing is done.
     fn fits(&self)
-        ensures fit { WorldFit self.now.state }
-        ensures failures { WorldCounted self.now.state }
+        ensures { KeepsWorld self.now self.now }
     {
         let _ = self.guests.len();
     }
 
     fn turn(&mut self, guest: u32, cpu: u32) -> Turn
-        requires range { EventInRange (plans_of self.old.state) (Cpu guest cpu) }
-        ensures step { (TurnAnswer result, self.new.state) ≡ world_step self.old.state (Cpu guest cpu) }
-        ensures fit { WorldFit self.new.state }
-        ensures failures { WorldCounted self.new.state }
-        ensures discards { EventDiscards self.old.state (Cpu guest cpu) }
-        ensures plans { plans_of self.new.state ≡ plans_of self.old.state }
-        ensures answers { self.new.answers ≡ self.old.answers }
-        ensures room { self.new.events ≡ self.old.events }
+        requires { EventInRange (plans_of self.old.state) (Cpu guest cpu) }
+        ensures { PlaysEvent self.old (Cpu guest cpu) (TurnAnswer result) self.new }
     {
         let mut pages = self.host.view(guest);
         self.guests[guest as usize].step(cpu, &mut pages, &mut self.disks[guest as usize])
     }
 
     fn alone(&mut self, guest: u32, cpu: u32) -> Alone
-        requires range { EventInRange (plans_of self.old.state) (AloneEvent guest cpu) }
-        ensures step { (AloneAnswer result, self.new.state) ≡ world_step self.old.state (AloneEvent guest cpu) }
-        ensures fit { WorldFit self.new.state }
-        ensures failures { WorldCounted self.new.state }
-        ensures discards { EventDiscards self.old.state (AloneEvent guest cpu) }
-        ensures plans { plans_of self.new.state ≡ plans_of self.old.state }
-        ensures answers { self.new.answers ≡ self.old.answers }
-        ensures room { self.new.events ≡ self.old.events }
+        requires { EventInRange (plans_of self.old.state) (AloneEvent guest cpu) }
+        ensures { PlaysEvent self.old (AloneEvent guest cpu) (AloneAnswer result) self.new }
     {
         let mut pages = self.host.view(guest);
         self.guests[guest as usize].alone(cpu, &mut pages, &mut self.disks[guest as usize])
     }
 
     fn host_move(&mut self, guest: u32, page: u32, action: Move) -> Answer
-        requires range { EventInRange (plans_of self.old.state) (HostEvent guest page action) }
-        ensures step { (result, self.new.state) ≡ world_step self.old.state (HostEvent guest page action) }
-        ensures fit { WorldFit self.new.state }
-        ensures failures { WorldCounted self.new.state }
-        ensures discards { EventDiscards self.old.state (HostEvent guest page action) }
-        ensures plans { plans_of self.new.state ≡ plans_of self.old.state }
-        ensures answers { self.new.answers ≡ self.old.answers }
-        ensures room { self.new.events ≡ self.old.events }
+        requires { EventInRange (plans_of self.old.state) (HostEvent guest page action) }
+        ensures { PlaysEvent self.old (HostEvent guest page action) result self.new }
     {
         move_answer(self.host.apply(guest, page, action))
     }
 
     fn reclaim(&mut self, count: u32) -> Answer
-        ensures step { (result, self.new.state) ≡ world_step self.old.state (Reclaim count) }
-        ensures fit { WorldFit self.new.state }
-        ensures failures { WorldCounted self.new.state }
-        ensures discards { EventDiscards self.old.state (Reclaim count) }
-        ensures plans { plans_of self.new.state ≡ plans_of self.old.state }
-        ensures answers { self.new.answers ≡ self.old.answers }
-        ensures room { self.new.events ≡ self.old.events }
+        ensures { PlaysEvent self.old (Reclaim count) result self.new }
     {
         let reclaimed = self.host.reclaim(count);
         Answer::Reclaimed {

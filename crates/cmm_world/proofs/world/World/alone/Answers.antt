@@ -4,22 +4,20 @@ use Rattle.cmm_types.specs.declared.event.Event.TheVariants.{Alone}
 use Rattle.cmm_types.specs.InRange.{EventInRange}
 use Rattle.cmm_io.specs.DiskState.{disk_view, opened}
 use Rattle.host_plain.specs.HostState.{host_view}
-use Rattle.guest_rules.specs.GuestState.{GuestState, opening_guest}
+use Rattle.guest_rules.specs.GuestState.{opening_guest}
 use Rattle.guest_rules.specs.Fit.{Fit}
 use Rattle.cmm_world.specs.WorldState.{WorldState, guest_at, disk_at, no_plan}
 use Rattle.cmm_world.specs.WorldView.{WorldView, plans_of}
-use Rattle.cmm_world.proofs.Events.{cpu_there, plans_kept}
+use Rattle.cmm_world.proofs.Events.{cpu_there}
 use Rattle.cmm_types.specs.declared.event.Answer.TheVariants.{Alone as AloneAnswer}
 use Rattle.cmm_storage.specs.Program.{Does}
-use Rattle.guest_rules.specs.Alone.{alone, most_turns}
-use Rattle.cmm_world.specs.Run.{world_step}
-use Rattle.cmm_world.specs.Headline.{TurnsDiscard}
+use Rattle.guest_rules.specs.Alone.{alone}
+use Rattle.cmm_world.specs.Played.{PlaysEvent}
 use Rattle.cmm_world.proofs.Carried.{carried}
-use Rattle.cmm_storage.specs.Views.{page_of}
-use Rattle.host_plain.specs.Served.{host_of}
-use Rattle.cmm_world.proofs.Kept.{keeps_others}
 use Rattle.cmm_world.proofs.HostSteps.{host_step, disk_step}
-use Rattle.cmm_world.proofs.TurnRuns.{AfterAlone, after_alone, with_turn}
+use Rattle.cmm_world.proofs.TurnRuns.{with_turn}
+use Rattle.cmm_world.proofs.AloneRuns.{AfterAlone, after_alone}
+use Rattle.cmm_world.proofs.Playing.{plays_alone, seen_as}
 use Rattle.cmm_world.proofs.world.World.alone.Goals as goal
 
 abbrev before : (c : goal.After-index_mut-2) → WorldState
@@ -28,7 +26,7 @@ before c = record { guests = c.self.inside.guests.items; disks = c.self.inside.d
 there : (c : goal.After-index_mut-2) → (c.args.guest < length c.self.inside.guests.items) × (c.args.cpu < length (guest_at (before c) c.args.guest).processors)
 there c =
     cpu_there (before c) c.args.guest c.args.cpu c.self.invariant.0
-    (subst (λ (v : WorldView). EventInRange (plans_of v.state) (Alone c.args.guest c.args.cpu)) (sym c.self.view_is) c.requires.range)
+    (subst (λ (v : WorldView). EventInRange (plans_of v.state) (Alone c.args.guest c.args.cpu)) (sym c.self.view_is) c.requires)
 
 its_guest : (c : goal.After-index_mut-2) → c.index_mut.result.now ≡ guest_at (before c) c.args.guest
 its_guest c = c.index_mut.ensures.value ∙ get_or_default c.self.inside.guests.items c.args.guest c.index_mut.result.now (opening_guest no_plan) (there c).0
@@ -58,7 +56,7 @@ inside c = record { guests = c.self.inside.guests.items; disks = c.self.inside.d
 named_there : (c : goal.After-self-2-1) → (c.args.guest < length c.self.inside.guests.items) × (c.args.cpu < length (guest_at (inside c) c.args.guest).processors)
 named_there c =
     cpu_there (inside c) c.args.guest c.args.cpu c.self.invariant.0
-    (subst (λ (v : WorldView). EventInRange (plans_of v.state) (Alone c.args.guest c.args.cpu)) (sym c.self.view_is) c.requires.range)
+    (subst (λ (v : WorldView). EventInRange (plans_of v.state) (Alone c.args.guest c.args.cpu)) (sym c.self.view_is) c.requires)
 
 after : (c : goal.After-self-2-1) → AfterAlone (inside c) c.args.guest c.args.cpu c.alone.new.self c.alone.result c.alone.new.st.host.now c.alone.new.disk
 after c =
@@ -66,29 +64,23 @@ after c =
     c.index_mut.ensures.value ∙ get_or_default c.self.inside.guests.items c.args.guest c.index_mut.result.now (opening_guest no_plan) (named_there c).0 in
     let disk : c.index_mut-2.result.now ≡ disk_at (inside c) c.args.guest =
     c.index_mut-2.ensures.value ∙ get_or_default c.self.inside.disks.items c.args.guest c.index_mut-2.result.now (opened [] 0 []) (rw c.self.invariant.0.disks (named_there c).0) in
-    let fit = c.alone.ensures.fit in
-    after_alone host_step disk_step (λ v. v.host.now) (λ d. d) (λ s call t q. q.0) (λ d call e q. q.0) (λ s call t q. q.1) (λ d call e q. q.1) (λ s call t q. keeps_others (host_of s) (page_of call) (host_of t) q.2)
-    (inside c) c.args.guest c.args.cpu c.view-pages.result c.index_mut-2.result.now c.alone.new.self c.alone.result c.alone.new.st c.alone.new.disk c.self.invariant.0 (named_there c).0 c.view-pages.ensures.served disk (named_there c).1 fit
-    (c.alone.ensures.plan ∙ ap (λ (g : GuestState). g.plan) guest)
-    (subst (λ g. Does host_step disk_step (alone g c.args.cpu) c.view-pages.result c.index_mut-2.result.now (c.alone.new.self, c.alone.result) c.alone.new.st c.alone.new.disk) guest c.alone.ensures.row)
+    after_alone host_step disk_step (λ v. v.host.now) (λ d. d) (λ s call t q. q.0) (λ d call e q. q.0) (λ s call t q. q.1) (λ d call e q. q.1) (λ s call t q. q.2)
+    (inside c) c.args.guest c.args.cpu c.view-pages.result c.index_mut-2.result.now
+    c.alone.new.self c.alone.result c.alone.new.st c.alone.new.disk c.self.invariant.0 (named_there c).0 c.view-pages.ensures.served disk (named_there c).1
+    (subst (λ g. Does host_step disk_step (alone g c.args.cpu) c.view-pages.result c.index_mut-2.result.now
+    (c.alone.new.self, c.alone.result) c.alone.new.st c.alone.new.disk) guest c.alone.ensures.row)
 
 pub invariant_of-self : goal.invariant_of-self
 invariant_of-self c = ((after c).world, c.self.invariant.1)
 
-pub returns-clause-step : goal.returns-clause-step
-returns-clause-step c = subst (λ (v : WorldView). (AloneAnswer c.alone.result, with_turn (inside c) c.args.guest c.alone.new.self c.alone.new.st.host.now c.alone.new.disk) ≡ world_step v.state (Alone c.args.guest c.args.cpu)) c.self.view_is (after c).step
+-- the world after it
+abbrev made : (c : goal.After-self-2-1) → WorldState
+made c = with_turn (inside c) c.args.guest c.alone.new.self c.alone.new.st.host.now c.alone.new.disk
 
-pub returns-clause-discards : goal.returns-clause-discards
-returns-clause-discards c = subst (λ (v : WorldView). TurnsDiscard most_turns v.state c.args.guest c.args.cpu) c.self.view_is (after c).discards
-
-pub returns-clause-plans : goal.returns-clause-plans
-returns-clause-plans c =
-    let guest : c.index_mut.result.now ≡ guest_at (inside c) c.args.guest =
-    c.index_mut.ensures.value ∙ get_or_default c.self.inside.guests.items c.args.guest c.index_mut.result.now (opening_guest no_plan) (named_there c).0 in
-    plans_kept c.self.inside.guests.items c.args.guest c.alone.new.self (named_there c).0 (c.alone.ensures.plan ∙ ap (λ (g : GuestState). g.plan) guest) ∙ ap (λ (v : WorldView). plans_of v.state) c.self.view_is
-
-pub returns-clause-fit : goal.returns-clause-fit
-returns-clause-fit c = (after c).world.fit
-
-pub returns-clause-failures : goal.returns-clause-failures
-returns-clause-failures c = (after c).world.failures
+pub returns : goal.returns
+returns c =
+    let event = Alone c.args.guest c.args.cpu in
+    let answers = c.self.inside.answers.items in
+    let events = c.self.inside.events in
+    subst (λ (v : WorldView). PlaysEvent v event (AloneAnswer c.alone.result) (seen_as (made c) answers events)) c.self.view_is
+    (plays_alone (inside c) answers events c.args.guest c.args.cpu c.alone.new.self c.alone.result c.alone.new.st.host.now c.alone.new.disk (named_there c).0 (after c))

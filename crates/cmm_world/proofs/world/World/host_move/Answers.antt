@@ -1,19 +1,22 @@
-use Rattle.std.proofs.Common.{sym, ap, subst, refl}
+use Rattle.std.proofs.Common.{◌≡◌, [], ◌∷◌, sym, ap, subst, refl}
 use Rattle.host_plain.specs.HostState.{HostState}
+use Rattle.cmm_types.specs.declared.event.Event.{Event}
 use Rattle.cmm_types.specs.declared.event.Event.TheVariants.{Host}
 use Rattle.cmm_types.specs.InRange.{EventInRange}
 use Rattle.cmm_world.specs.WorldState.{WorldState}
-use Rattle.cmm_world.specs.WorldView.{WorldView, NoWrongDiscards, plans_of}
+use Rattle.cmm_world.specs.WorldView.{WorldView, plans_of}
 use Rattle.cmm_types.specs.declared.event.Answer.{Answer}
 use Rattle.cmm_world.specs.Run.{world_step}
 use Rattle.cmm_world.proofs.Events.{page_there}
 use Rattle.cmm_world.proofs.Kept.{MovesKeep, kept_moves}
-use Rattle.cmm_world.proofs.TurnRuns.{discards_moves}
+use Rattle.cmm_world.specs.Steps.{step_answers}
+use Rattle.cmm_world.specs.Played.{PlaysEvent}
+use Rattle.cmm_world.proofs.Playing.{plays_moves, move_answered, seen_as}
 use Rattle.cmm_world.proofs.world.World.host_move.Goals as goal
 
 pub apply-requires-clause-page : goal.apply-requires-clause-page
 apply-requires-clause-page c =
-    let range = subst (λ (v : WorldView). EventInRange (plans_of v.state) (Host c.args.guest c.args.page c.args.action)) (sym c.self.view_is) c.requires.range in
+    let range = subst (λ (v : WorldView). EventInRange (plans_of v.state) (Host c.args.guest c.args.page c.args.action)) (sym c.self.view_is) c.requires in
     page_there _ c.args.guest c.args.page c.self.invariant.0 range
 
 abbrev inside : (c : goal.After-move_answer) → WorldState
@@ -30,21 +33,24 @@ moves c = record {
 pub invariant_of-self : goal.invariant_of-self
 invariant_of-self c = (kept_moves (inside c) c.apply.new.self c.self.invariant.0 (moves c), c.self.invariant.1)
 
-pub returns-clause-step : goal.returns-clause-step
+abbrev event : (c : goal.After-move_answer) → Event
+event c = Host c.args.guest c.args.page c.args.action
+
+abbrev answer : (c : goal.After-move_answer) → Answer
+answer c = c.move_answer.result
+
+-- the world after it
+abbrev made : (c : goal.After-move_answer) → WorldState
+made c = record (inside c) { host = c.apply.new.self }
+
+step : (c : goal.After-move_answer) → ◌≡◌ {A = Answer × WorldState} (world_step (inside c) (event c)) (answer c, made c)
 unfolding world_step
-returns-clause-step c =
-    let state = ap (λ (v : WorldView). v.state) c.self.view_is in
-    rw (← state, c.move_answer.ensures, c.apply.ensures.answer, c.apply.ensures.host) refl
+step c = rw (c.move_answer.ensures, c.apply.ensures.answer, c.apply.ensures.host) refl
 
-pub returns-clause-discards : goal.returns-clause-discards
-returns-clause-discards c =
-    let state = ap (λ (v : WorldView). v.state) c.self.view_is in
-    subst (λ (s : Answer × WorldState). NoWrongDiscards c.args.self.now.state s.1) (returns-clause-step c)
-    (subst (λ w. NoWrongDiscards w (record { guests = c.self.inside.guests.items; disks = c.self.inside.disks.items; host = c.apply.new.self })) state
-    (discards_moves (inside c) c.apply.new.self c.self.invariant.0 (moves c)))
-
-pub returns-clause-fit : goal.returns-clause-fit
-returns-clause-fit c = (invariant_of-self c).0.fit
-
-pub returns-clause-failures : goal.returns-clause-failures
-returns-clause-failures c = (invariant_of-self c).0.failures
+pub returns : goal.returns
+returns c =
+    let answers = c.self.inside.answers.items in
+    let events = c.self.inside.events in
+    let one : step_answers (answer c) ≡ answer c ∷ [] = subst (λ a. step_answers a ≡ a ∷ []) (sym c.move_answer.ensures) (move_answered c.apply.result) in
+    subst (λ (v : WorldView). PlaysEvent v (event c) (answer c) (seen_as (made c) answers events)) c.self.view_is
+    (plays_moves (inside c) answers events (event c) (answer c) c.apply.new.self (step c) refl one c.self.invariant.0 (moves c))

@@ -1,11 +1,16 @@
-use Rattle.std.proofs.Common.{ap, subst, refl}
+use Rattle.std.proofs.Common.{◌≡◌, [], ◌∷◌, ap, subst, refl}
 use Rattle.host_plain.specs.HostState.{HostState}
 use Rattle.cmm_world.specs.WorldState.{WorldState}
-use Rattle.cmm_world.specs.WorldView.{WorldView, NoWrongDiscards}
+use Rattle.cmm_world.specs.WorldView.{WorldView}
+use Rattle.cmm_types.specs.declared.event.Event.{Event}
+use Rattle.cmm_types.specs.declared.event.Event.TheVariants.{Reclaim}
+use Rattle.cmm_types.specs.declared.event.Answer.TheVariants.{Reclaimed}
 use Rattle.cmm_types.specs.declared.event.Answer.{Answer}
 use Rattle.cmm_world.specs.Run.{world_step}
 use Rattle.cmm_world.proofs.Kept.{MovesKeep, kept_moves}
-use Rattle.cmm_world.proofs.TurnRuns.{discards_moves}
+use Rattle.cmm_world.specs.Steps.{step_answers}
+use Rattle.cmm_world.specs.Played.{PlaysEvent}
+use Rattle.cmm_world.proofs.Playing.{plays_moves, seen_as}
 use Rattle.cmm_world.proofs.world.World.reclaim.Goals as goal
 
 abbrev inside : (c : goal.After-reclaim-reclaimed) → WorldState
@@ -22,21 +27,24 @@ moves c = record {
 pub invariant_of-self : goal.invariant_of-self
 invariant_of-self c = (kept_moves (inside c) c.reclaim-reclaimed.new.self c.self.invariant.0 (moves c), c.self.invariant.1)
 
-pub returns-clause-step : goal.returns-clause-step
+abbrev event : (c : goal.After-reclaim-reclaimed) → Event
+event c = Reclaim c.args.count
+
+abbrev answer : (c : goal.After-reclaim-reclaimed) → Answer
+answer c = Reclaimed c.reclaim-reclaimed.result.count c.reclaim-reclaimed.result.paging
+
+-- the world after it
+abbrev made : (c : goal.After-reclaim-reclaimed) → WorldState
+made c = record (inside c) { host = c.reclaim-reclaimed.new.self }
+
+step : (c : goal.After-reclaim-reclaimed) → ◌≡◌ {A = Answer × WorldState} (world_step (inside c) (event c)) (answer c, made c)
 unfolding world_step
-returns-clause-step c =
-    let state = ap (λ (v : WorldView). v.state) c.self.view_is in
-    rw (← state, c.reclaim-reclaimed.ensures.count, c.reclaim-reclaimed.ensures.paging, c.reclaim-reclaimed.ensures.host) refl
+step c = rw (c.reclaim-reclaimed.ensures.count, c.reclaim-reclaimed.ensures.paging, c.reclaim-reclaimed.ensures.host) refl
 
-pub returns-clause-discards : goal.returns-clause-discards
-returns-clause-discards c =
-    let state = ap (λ (v : WorldView). v.state) c.self.view_is in
-    subst (λ (s : Answer × WorldState). NoWrongDiscards c.args.self.now.state s.1) (returns-clause-step c)
-    (subst (λ w. NoWrongDiscards w (record { guests = c.self.inside.guests.items; disks = c.self.inside.disks.items; host = c.reclaim-reclaimed.new.self })) state
-    (discards_moves (inside c) c.reclaim-reclaimed.new.self c.self.invariant.0 (moves c)))
-
-pub returns-clause-fit : goal.returns-clause-fit
-returns-clause-fit c = (invariant_of-self c).0.fit
-
-pub returns-clause-failures : goal.returns-clause-failures
-returns-clause-failures c = (invariant_of-self c).0.failures
+pub returns : goal.returns
+returns c =
+    let answers = c.self.inside.answers.items in
+    let events = c.self.inside.events in
+    let one : step_answers (answer c) ≡ answer c ∷ [] = refl in
+    subst (λ (v : WorldView). PlaysEvent v (event c) (answer c) (seen_as (made c) answers events)) c.self.view_is
+    (plays_moves (inside c) answers events (event c) (answer c) c.reclaim-reclaimed.new.self (step c) refl one c.self.invariant.0 (moves c))

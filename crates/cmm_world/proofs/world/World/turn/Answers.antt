@@ -1,6 +1,5 @@
 use Rattle.std.proofs.Common.{◌≡◌, ◌<◌, [], length, sym, ap, subst, ◌∙◌}
 use Rattle.std.proofs.lemmas.List.{get_or_default}
-use Rattle.cmm_types.specs.declared.event.Answer.{Answer}
 use Rattle.cmm_types.specs.declared.event.Event.TheVariants.{Cpu}
 use Rattle.cmm_types.specs.InRange.{EventInRange}
 use Rattle.cmm_io.specs.DiskState.{disk_view, opened}
@@ -8,18 +7,16 @@ use Rattle.host_plain.specs.HostState.{host_view}
 use Rattle.guest_rules.specs.GuestState.{opening_guest}
 use Rattle.guest_rules.specs.Fit.{Fit}
 use Rattle.cmm_world.specs.WorldState.{WorldState, guest_at, disk_at, no_plan}
-use Rattle.cmm_world.specs.WorldView.{WorldView, NoWrongDiscards, plans_of}
-use Rattle.cmm_world.proofs.Events.{cpu_there, plans_kept}
+use Rattle.cmm_world.specs.WorldView.{WorldView, plans_of}
+use Rattle.cmm_world.proofs.Events.{cpu_there}
 use Rattle.cmm_types.specs.declared.event.Answer.TheVariants.{Turn}
 use Rattle.cmm_storage.specs.Program.{Does}
 use Rattle.guest_rules.specs.Turns.{turn}
-use Rattle.cmm_world.specs.Run.{world_step}
+use Rattle.cmm_world.specs.Played.{PlaysEvent}
 use Rattle.cmm_world.proofs.Carried.{carried}
-use Rattle.cmm_storage.specs.Views.{page_of}
-use Rattle.host_plain.specs.Served.{host_of}
-use Rattle.cmm_world.proofs.Kept.{keeps_others}
 use Rattle.cmm_world.proofs.HostSteps.{host_step, disk_step}
 use Rattle.cmm_world.proofs.TurnRuns.{AfterTurn, after_turn, with_turn}
+use Rattle.cmm_world.proofs.Playing.{plays_turn, seen_as}
 use Rattle.cmm_world.proofs.world.World.turn.Goals as goal
 
 abbrev before : (c : goal.After-index_mut-2) → WorldState
@@ -28,7 +25,7 @@ before c = record { guests = c.self.inside.guests.items; disks = c.self.inside.d
 there : (c : goal.After-index_mut-2) → (c.args.guest < length c.self.inside.guests.items) × (c.args.cpu < length (guest_at (before c) c.args.guest).processors)
 there c =
     cpu_there (before c) c.args.guest c.args.cpu c.self.invariant.0
-    (subst (λ (v : WorldView). EventInRange (plans_of v.state) (Cpu c.args.guest c.args.cpu)) (sym c.self.view_is) c.requires.range)
+    (subst (λ (v : WorldView). EventInRange (plans_of v.state) (Cpu c.args.guest c.args.cpu)) (sym c.self.view_is) c.requires)
 
 its_guest : (c : goal.After-index_mut-2) → c.index_mut.result.now ≡ guest_at (before c) c.args.guest
 its_guest c = c.index_mut.ensures.value ∙ get_or_default c.self.inside.guests.items c.args.guest c.index_mut.result.now (opening_guest no_plan) (there c).0
@@ -58,7 +55,7 @@ inside c = record { guests = c.self.inside.guests.items; disks = c.self.inside.d
 named_there : (c : goal.After-self-2-1) → (c.args.guest < length c.self.inside.guests.items) × (c.args.cpu < length (guest_at (inside c) c.args.guest).processors)
 named_there c =
     cpu_there (inside c) c.args.guest c.args.cpu c.self.invariant.0
-    (subst (λ (v : WorldView). EventInRange (plans_of v.state) (Cpu c.args.guest c.args.cpu)) (sym c.self.view_is) c.requires.range)
+    (subst (λ (v : WorldView). EventInRange (plans_of v.state) (Cpu c.args.guest c.args.cpu)) (sym c.self.view_is) c.requires)
 
 after : (c : goal.After-self-2-1) → AfterTurn (inside c) c.args.guest c.args.cpu c.step.new.self c.step.result c.step.new.st.host.now c.step.new.disk
 after c =
@@ -66,27 +63,22 @@ after c =
     c.index_mut.ensures.value ∙ get_or_default c.self.inside.guests.items c.args.guest c.index_mut.result.now (opening_guest no_plan) (named_there c).0 in
     let disk : c.index_mut-2.result.now ≡ disk_at (inside c) c.args.guest =
     c.index_mut-2.ensures.value ∙ get_or_default c.self.inside.disks.items c.args.guest c.index_mut-2.result.now (opened [] 0 []) (rw c.self.invariant.0.disks (named_there c).0) in
-    after_turn host_step disk_step (λ v. v.host.now) (λ d. d) (λ s call t q. q.0) (λ d call e q. q.0) (λ s call t q. q.1) (λ d call e q. q.1) (λ s call t q. keeps_others (host_of s) (page_of call) (host_of t) q.2)
-    (inside c) c.args.guest c.args.cpu c.view-pages.result c.index_mut-2.result.now c.step.new.self c.step.result c.step.new.st c.step.new.disk c.self.invariant.0 (named_there c).0 c.view-pages.ensures.served disk (named_there c).1
+    after_turn host_step disk_step (λ v. v.host.now) (λ d. d) (λ s call t q. q.0) (λ d call e q. q.0) (λ s call t q. q.1) (λ d call e q. q.1) (λ s call t q. q.2)
+    (inside c) c.args.guest c.args.cpu c.view-pages.result c.index_mut-2.result.now
+    c.step.new.self c.step.result c.step.new.st c.step.new.disk c.self.invariant.0 (named_there c).0 c.view-pages.ensures.served disk (named_there c).1
     (subst (λ g. Does host_step disk_step (turn g c.args.cpu) c.view-pages.result c.index_mut-2.result.now (c.step.new.self, c.step.result) c.step.new.st c.step.new.disk) guest c.step.ensures.row)
 
 pub invariant_of-self : goal.invariant_of-self
 invariant_of-self c = ((after c).world, c.self.invariant.1)
 
-pub returns-clause-step : goal.returns-clause-step
-returns-clause-step c = subst (λ (v : WorldView). (Turn c.step.result, with_turn (inside c) c.args.guest c.step.new.self c.step.new.st.host.now c.step.new.disk) ≡ world_step v.state (Cpu c.args.guest c.args.cpu)) c.self.view_is (after c).step
+-- the world after it
+abbrev made : (c : goal.After-self-2-1) → WorldState
+made c = with_turn (inside c) c.args.guest c.step.new.self c.step.new.st.host.now c.step.new.disk
 
-pub returns-clause-discards : goal.returns-clause-discards
-returns-clause-discards c =
-    subst (λ (s : Answer × WorldState). NoWrongDiscards c.args.self.now.state s.1) (returns-clause-step c)
-    (subst (λ (v : WorldView). NoWrongDiscards v.state (with_turn (inside c) c.args.guest c.step.new.self c.step.new.st.host.now c.step.new.disk)) c.self.view_is (after c).discards)
-
-pub returns-clause-plans : goal.returns-clause-plans
-returns-clause-plans c =
-    plans_kept c.self.inside.guests.items c.args.guest c.step.new.self (named_there c).0 (after c).plan ∙ ap (λ (v : WorldView). plans_of v.state) c.self.view_is
-
-pub returns-clause-fit : goal.returns-clause-fit
-returns-clause-fit c = (after c).world.fit
-
-pub returns-clause-failures : goal.returns-clause-failures
-returns-clause-failures c = (after c).world.failures
+pub returns : goal.returns
+returns c =
+    let event = Cpu c.args.guest c.args.cpu in
+    let answers = c.self.inside.answers.items in
+    let events = c.self.inside.events in
+    subst (λ (v : WorldView). PlaysEvent v event (Turn c.step.result) (seen_as (made c) answers events)) c.self.view_is
+    (plays_turn (inside c) answers events c.args.guest c.args.cpu c.step.new.self c.step.result c.step.new.st.host.now c.step.new.disk (named_there c).0 (after c))

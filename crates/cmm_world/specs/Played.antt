@@ -1,0 +1,18 @@
+-- What playing one event does to a world.
+use Rattle.std.specs.Prelude.{◌≡◌}
+use Rattle.cmm_types.specs.declared.event.Event.{Event}
+use Rattle.cmm_types.specs.declared.event.Answer.{Answer}
+use Rattle.cmm_world.specs.WorldView.{WorldView}
+use Rattle.cmm_world.specs.WorldFit.{KeepsWorld}
+use Rattle.cmm_world.specs.Run.{world_step}
+use Rattle.cmm_world.specs.Steps.{IsStepByStep}
+use Rattle.cmm_world.specs.Reached.{ReachesPages}
+
+-- the step determines the answer and the world after it. It is nothing but its single steps, none of which discards wrongly; a load or a store
+-- that it answered has reached its page; and the world keeps what it must, but not the answer
+pub record PlaysEvent (v : WorldView) (event : Event) (answer : Answer) (x : WorldView) : Type 0 where
+  pub step : (answer, x.state) ≡ world_step v.state event
+  pub steps : IsStepByStep v.state event
+  pub reached : ReachesPages v.state event
+  pub kept : KeepsWorld v x
+  pub answers : x.answers ≡ v.answers
