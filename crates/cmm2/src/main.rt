@@ -1,7 +1,7 @@
 //! `cmm2`: plays guests that hint what they need of their pages, on a host with less memory than they were given.
 #![tactic(auto)]
 
-use cmm_io::{StdSink, StdSource};
+use cmm_io::{Sink, Source, StdSink, StdSource};
 use cmm2_cli::{Status, cmm2_replay};
 use std::alloc::AllocError;
 use std::env;
@@ -20,14 +20,22 @@ fn words_of(rt: &HostRuntime) -> Result<Vec<String>, AllocError> {
     }
 }
 
+/// Replays from standard input to standard output. The status tells of a failed read exactly where one was counted,
+/// and of a failed write likewise.
+fn replay(rt: &HostRuntime, words: &[String]) -> Status {
+    let mut source = StdSource::new(rt.stdin());
+    let mut sink = StdSink::new(rt.stdout());
+    let status = cmm2_replay(rt.alloc(), words, &mut source, &mut sink);
+    let reads_failed = source.faults();
+    let writes_failed = sink.faults();
+    prove!((reads_failed == 1) == (status == Status::ReadFault));
+    prove!((writes_failed == 1) == (status == Status::WriteFault));
+    status
+}
+
 fn main(rt: HostRuntime) -> ExitCode {
     let status = match words_of(&rt) {
-        Ok(words) => cmm2_replay(
-            rt.alloc(),
-            words.as_slice(),
-            &mut StdSource::new(rt.stdin()),
-            &mut StdSink::new(rt.stdout()),
-        ),
+        Ok(words) => replay(&rt, words.as_slice()),
         Err(_) => Status::NoMemory,
     };
     ExitCode::from(status.code())

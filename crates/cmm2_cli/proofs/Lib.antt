@@ -1,3 +1,2 @@
-pub mod Wrote
 mod FromGuest
-mod Inputs
+mod Taken

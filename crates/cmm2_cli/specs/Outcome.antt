@@ -1,8 +1,10 @@
--- What the program answers to its words and its input, and what it writes.
-use Rattle.std.specs.Prelude.{◌≡◌, ◌⊎◌, ℕ, ◌<◌, ◌≤◌, List, [], ◌∷◌, length, codes, false, Option, Result, Ok, Err}
+-- What the program answers to its words and its input, what it reads of the input, and what it writes.
+use Rattle.std.specs.Prelude.{◌≡◌, ◌⊎◌, ℕ, ◌+◌, ◌<◌, ◌≤◌, List, [], ◌∷◌, length, take, codes, false, Option, Result, Ok, Err}
+use Rattle.std.specs.Io.KnownBytes.{Appends}
 use Rattle.cmm_types.specs.declared.plan.Scenario.{Scenario}
-use Rattle.cmm_io.specs.Faults.{HasRisen}
-use Rattle.cmm_io.specs.SinkBytes.{behind, WrotePrefix}
+use Rattle.cmm_io.specs.Faults.{raised}
+use Rattle.cmm_io.specs.SourceBytes.{HasTaken, HasTakenAtMost}
+use Rattle.cmm_io.specs.SinkBytes.{AppendsFront}
 use Rattle.cmm_scenario.specs.declared.error.ScenarioError.{ScenarioError}
 use Rattle.cmm_scenario.specs.declared.error.ScenarioError.TheVariants as errors
 use Rattle.cmm_scenario.specs.Scenario.{scenario_of}
@@ -25,13 +27,14 @@ module _ {K : Type 0} (faults : K → ℕ) (written : K → Option (List ℕ)) (
   -- the whole text was written behind what was written before
   pub record WroteAll (text : List ℕ) (wanted result : Status) : Type 0 where
     pub status : result ≡ wanted
-    pub appended : written new ≡ behind (written old) text
+    pub whole : Appends (written old) (written new) text
+    pub no_fault : faults new ≡ faults old
 
-  -- the sink failed behind a front of the text
+  -- a write failed behind a front of the text
   pub record WroteFront (text : List ℕ) (result : Status) : Type 0 where
     pub status : result ≡ WriteFault
-    pub risen : HasRisen (faults old) (faults new)
-    pub front : WrotePrefix (written old) text (written new)
+    pub front : AppendsFront (written old) (written new) text
+    pub fault : faults new ≡ raised (faults old)
 
   -- the text was written and the program ends with this status, unless the sink failed
   abbrev pub Answers : List ℕ → Status → Status → Type 0
@@ -63,12 +66,31 @@ module _ {K : Type 0} (faults : K → ℕ) (written : K → Option (List ℕ)) (
   abbrev pub AnswersBytes : List ℕ → Status → Type 0
   AnswersBytes bytes result = AnswersReading (scenario_of bytes) result ⊎ WroteNothing NoMemory result
 
-  abbrev pub AnswersInput : List ℕ → Status → Type 0
-  AnswersInput bytes result =
-      ((MAX_INPUT < length bytes) × Answers (refusal_text Long) ScenarioRefused result)
-      ⊎ ((length bytes ≤ MAX_INPUT) × AnswersBytes bytes result)
-      ⊎ WroteNothing NoMemory result
+-- the bytes of an input that the program takes: of one that is longer than the limit, one more than the limit
+abbrev pub taken_of : List ℕ → List ℕ
+taken_of bytes = take (MAX_INPUT + 1) bytes
 
-  -- a read failed, or this is the answer to some input
+module _ {S : Type 0} (rest : S → Option (List ℕ)) (given : S → ℕ) (before after : S) {K : Type 0} (faults : K → ℕ) (written : K → Option (List ℕ)) (old new : K) where
+  -- an input that is longer than the limit is refused
+  pub record RefusesLong (bytes : List ℕ) (result : Status) : Type 0 where
+    pub long : MAX_INPUT < length bytes
+    pub taken : HasTaken rest given before after (taken_of bytes)
+    pub answer : Answers faults written old new (refusal_text Long) ScenarioRefused result
+
+  -- another one is read whole
+  pub record AnswersWhole (bytes : List ℕ) (result : Status) : Type 0 where
+    pub short : length bytes ≤ MAX_INPUT
+    pub taken : HasTaken rest given before after (taken_of bytes)
+    pub answer : AnswersBytes faults written old new bytes result
+
+  -- memory ran out while it was read
+  pub record ReadsNoMore (result : Status) : Type 0 where
+    pub taken : HasTakenAtMost rest given before after (MAX_INPUT + 1)
+    pub answer : WroteNothing faults written old new NoMemory result
+
+  abbrev pub AnswersInput : List ℕ → Status → Type 0
+  AnswersInput bytes result = RefusesLong bytes result ⊎ AnswersWhole bytes result ⊎ ReadsNoMore result
+
+  -- a read failed, or this is the answer to some input, of which these bytes were taken
   abbrev pub AnswersSome : Status → Type 0
   AnswersSome result = (result ≡ ReadFault) ⊎ ((bytes : List ℕ) × AnswersInput bytes result)

@@ -10,4 +10,5 @@ mod status;
 mod tests;
 
 pub use replay::{MAX_INPUT, cmm2_replay};
+pub use report::write_replay;
 pub use status::Status;

@@ -1,8 +1,9 @@
-ghost use Rattle.std.specs.Prelude.{◌≡◌, ◌⊎◌, ◌≤◌, ◌↔◌, length, map, codes, string_bytes, IsTrue, IfSome, IfOk, Some, false, [], ◌∷◌, List, ℕ};
+ghost use Rattle.std.specs.Prelude.{◌≡◌, ◌≢◌, ◌⊎◌, ◌↔◌, map, string_bytes, IsTrue, IfSome, false};
+ghost use Rattle.std.specs.Io.KnownBytes.{IsAtEnd};
 ghost use Rattle.cmm_types.specs.InRange.{ScenarioInRange};
 ghost use Rattle.cmm_world.specs.Built.{IsBuilt};
-ghost use Rattle.cmm_io.specs.Faults.{HasRisen};
-ghost use Rattle.cmm_io.specs.SourceBytes.{IsAtEnd};
+ghost use Rattle.cmm_io.specs.Faults.{raised};
+ghost use Rattle.cmm_io.specs.SourceBytes.{HasTakenAtMost};
 ghost use Rattle.cmm_report.specs.Report.{report_of};
 ghost use Rattle.cmm2_cli.specs.Reports.{reports_of};
 ghost use Rattle.cmm2_cli.specs.Refusal.{refusal_text, refusal_status, fault_text};
@@ -12,7 +13,7 @@ use crate::fault::write_fault;
 use crate::refusal::{Refusal, kind_end};
 use crate::report::write_replay;
 use crate::status::Status;
-use cmm_io::{ReadError, Sink, Source, read_all, write_all};
+use cmm_io::{ReadError, Sink, Source, WriteFault, read_all, write_all};
 use cmm_scenario::{Kind, Path, ScenarioError, read_scenario};
 use cmm_types::Scenario;
 use cmm_world::{World, is_built};
@@ -41,7 +42,7 @@ fn refuse<K: Sink>(out: &mut K, refusal: Refusal) -> Status
 {
     match write_all(out, refusal.text()) {
         Ok(()) => refusal.status(),
-        Err(_) => Status::WriteFault,
+        Err(WriteFault) => Status::WriteFault,
     }
 }
 
@@ -50,7 +51,7 @@ fn refuse_fault<K: Sink>(out: &mut K, path: &Path, kind: Kind) -> Status
 {
     match write_fault(out, path.as_slice(), kind_end(kind)) {
         Ok(()) => Status::ScenarioRefused,
-        Err(_) => Status::WriteFault,
+        Err(WriteFault) => Status::WriteFault,
     }
 }
 
@@ -59,7 +60,7 @@ fn report<K: Sink>(out: &mut K, world: &World) -> Status
 {
     match write_replay(out, world) {
         Ok(()) => Status::Done,
-        Err(_) => Status::WriteFault,
+        Err(WriteFault) => Status::WriteFault,
     }
 }
 
@@ -115,17 +116,21 @@ pub fn cmm2_replay<S: Source, K: Sink>(
     ensures usage { result ≡ Status.Usage → ¬ IsReplay (map string_bytes words.now) }
 
     // Nothing is written after a read that failed, or where memory ran out.
-    ensures read_fault { result ≡ Status.ReadFault → HasRisen (S.faults src.old) (S.faults src.new) × (out.new ≡ out.old) }
+    ensures read_fault { result ≡ Status.ReadFault → (S.faults src.new ≡ raised (S.faults src.old)) × (out.new ≡ out.old) }
+    ensures read_fault_within { result ≡ Status.ReadFault → HasTakenAtMost S.rest S.given src.old src.new MAX_INPUT }
+    ensures no_read_fault { result ≢ Status.ReadFault → S.faults src.new ≡ S.faults src.old }
     ensures no_memory { result ≡ Status.NoMemory → out.new ≡ out.old }
-    ensures write_fault { result ≡ Status.WriteFault → HasRisen (K.faults out.old) (K.faults out.new) }
+    ensures write_fault { result ≡ Status.WriteFault → K.faults out.new ≡ raised (K.faults out.old) }
+    ensures no_write_fault { result ≢ Status.WriteFault → K.faults out.new ≡ K.faults out.old }
 
-    // Otherwise the input has its answer.
+    // Otherwise the input has its answer. All of it is read, or one byte more than the limit.
     ensures answer { IsReplay (map string_bytes words.now) → IfSome (S.rest src.old) (λ bytes.
-        (result ≡ Status.ReadFault) ⊎ AnswersInput K.faults K.written out.old out.new bytes result) }
+        (result ≡ Status.ReadFault) ⊎ AnswersInput S.rest S.given src.old src.new K.faults K.written out.old out.new bytes result) }
     ensures read_whole { result ≡ Status.Done → IsAtEnd (S.rest src.new) }
 
-    // Also where the source doesn't tell its bytes, the answer is one to some input.
-    ensures some_input { IsReplay (map string_bytes words.now) → AnswersSome K.faults K.written out.old out.new result }
+    // Also where the source doesn't tell its bytes, the answer is one to some input, of which as many bytes were
+    // read.
+    ensures some_input { IsReplay (map string_bytes words.now) → AnswersSome S.rest S.given src.old src.new K.faults K.written out.old out.new result }
 {
     if !is_replay(words) {
         return refuse(out, Refusal::Words);

@@ -1,7 +1,6 @@
 // The report of a replay, put together from its parts.
-ghost use Rattle.std.specs.Prelude.{◌≡◌, ◌≤◌, ◌<◌, ◌-◌, ◌++◌, length, false, OnOk, OnErr};
-ghost use Rattle.cmm_io.specs.Faults.{HasRisen};
-ghost use Rattle.cmm_io.specs.SinkBytes.{behind, WrotePrefix};
+ghost use Rattle.std.specs.Prelude.{◌≡◌, ◌<◌, ◌++◌, length, false};
+ghost use Rattle.cmm_io.specs.SinkBytes.{Writes};
 ghost use Rattle.cmm_report.specs.Lines.{head_line};
 ghost use Rattle.cmm_report.specs.Report.{events_text, guest_text, guests_text, report_of};
 ghost use Rattle.cmm_world.specs.WorldView.{discards_of};
@@ -13,10 +12,7 @@ use cmm_types::Answer;
 use cmm_world::World;
 
 fn write_answers<K: Sink>(out: &mut K, answers: &[Answer]) -> Result<(), WriteFault>
-    ensures wrote { OnOk result (K.written out.new ≡ behind (K.written out.old) (head_line false ++ events_text 0 answers.now)) }
-    ensures prefix { OnErr result (WrotePrefix (K.written out.old) (head_line false ++ events_text 0 answers.now) (K.written out.new)) }
-    ensures fault { OnErr result (HasRisen (K.faults out.old) (K.faults out.new)) }
-    ensures never_falls { K.faults out.old ≤ K.faults out.new }
+    ensures { Writes K.faults K.written out.old out.new (head_line false ++ events_text 0 answers.now) result }
 {
     write_head(out, false)?;
     write_events(out, answers)
@@ -36,10 +32,7 @@ fn discards(world: &World, guest: u32) -> u64
 
 fn write_one_guest<K: Sink>(out: &mut K, world: &World, guest: u32) -> Result<(), WriteFault>
     requires { guest < length world.now.state.guests }
-    ensures wrote { OnOk result (K.written out.new ≡ behind (K.written out.old) (guest_text guest (guest_report world.now.state guest))) }
-    ensures prefix { OnErr result (WrotePrefix (K.written out.old) (guest_text guest (guest_report world.now.state guest)) (K.written out.new)) }
-    ensures fault { OnErr result (HasRisen (K.faults out.old) (K.faults out.new)) }
-    ensures never_falls { K.faults out.old ≤ K.faults out.new }
+    ensures { Writes K.faults K.written out.old out.new (guest_text guest (guest_report world.now.state guest)) result }
 {
     let its = world.guest(guest);
     write_guest(
@@ -52,10 +45,7 @@ fn write_one_guest<K: Sink>(out: &mut K, world: &World, guest: u32) -> Result<()
 }
 
 fn write_guests<K: Sink>(out: &mut K, world: &World) -> Result<(), WriteFault>
-    ensures wrote { OnOk result (K.written out.new ≡ behind (K.written out.old) (guests_text 0 (reports_of world.now.state))) }
-    ensures prefix { OnErr result (WrotePrefix (K.written out.old) (guests_text 0 (reports_of world.now.state)) (K.written out.new)) }
-    ensures fault { OnErr result (HasRisen (K.faults out.old) (K.faults out.new)) }
-    ensures never_falls { K.faults out.old ≤ K.faults out.new }
+    ensures { Writes K.faults K.written out.old out.new (guests_text 0 (reports_of world.now.state)) result }
 {
     for guest in 0..world.guests() {
         write_one_guest(out, world, guest)?;
@@ -64,10 +54,7 @@ fn write_guests<K: Sink>(out: &mut K, world: &World) -> Result<(), WriteFault>
 }
 
 fn write_body<K: Sink>(out: &mut K, world: &World) -> Result<(), WriteFault>
-    ensures wrote { OnOk result (K.written out.new ≡ behind (K.written out.old) (head_line false ++ events_text 0 world.now.answers ++ guests_text 0 (reports_of world.now.state))) }
-    ensures prefix { OnErr result (WrotePrefix (K.written out.old) (head_line false ++ events_text 0 world.now.answers ++ guests_text 0 (reports_of world.now.state)) (K.written out.new)) }
-    ensures fault { OnErr result (HasRisen (K.faults out.old) (K.faults out.new)) }
-    ensures never_falls { K.faults out.old ≤ K.faults out.new }
+    ensures { Writes K.faults K.written out.old out.new (head_line false ++ events_text 0 world.now.answers ++ guests_text 0 (reports_of world.now.state)) result }
 {
     write_answers(out, world.answers())?;
     write_guests(out, world)
@@ -75,10 +62,7 @@ fn write_body<K: Sink>(out: &mut K, world: &World) -> Result<(), WriteFault>
 
 /// Writes the report of a world's replay.
 pub fn write_replay<K: Sink>(out: &mut K, world: &World) -> Result<(), WriteFault>
-    ensures wrote { OnOk result (K.written out.new ≡ behind (K.written out.old) (report_of false world.now.answers (reports_of world.now.state))) }
-    ensures prefix { OnErr result (WrotePrefix (K.written out.old) (report_of false world.now.answers (reports_of world.now.state)) (K.written out.new)) }
-    ensures fault { OnErr result (HasRisen (K.faults out.old) (K.faults out.new)) }
-    ensures never_falls { K.faults out.old ≤ K.faults out.new }
+    ensures { Writes K.faults K.written out.old out.new (report_of false world.now.answers (reports_of world.now.state)) result }
 {
     write_body(out, world)?;
     write_end(out)

@@ -1,7 +1,7 @@
 /// How the program ended.
 #[derive(Clone, Copy, Debug, PartialEq, Eq)]
 pub enum Status {
-    /// All was read, and the whole text was written.
+    /// The whole text was written. Where the source tells its bytes, all of them were read.
     Done,
     /// The words aren't a command line of the program.
     Usage,

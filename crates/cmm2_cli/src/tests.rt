@@ -46,6 +46,19 @@ guest 0 entries 1 discards 0 faults 0
 end
 ";
 
+/// The last 64 bytes of a page.
+const PAGE_END: &str =
+    r#"{"version": 1, "frames": 4, "guests": [{"pages": 4, "swap": 0, "files": [{"pages": 1, "head": "00"}], "cpus": [{"process": 0, "commands": ["mapfile 0 0 0 1 ro", "load 0 4032 64"]}]}], "schedule": ["alone 0 0", "alone 0 0"]}"#;
+
+const PAGE_END_REPORT: &str = "cmm2-report 1 replay
+event 0 alone finished 1
+event 1 alone finished 4
+guest 0 entries 2 discards 0 faults 0
+0 0 ok
+0 1 ok 00000000000000000000000000000000000000000000000000000000000000000000000000000000000000000000000000000000000000000000000000000000
+end
+";
+
 fn source(alloc: Global, input: &str, failing_read: u32) -> Result<MemSource, Fail> {
     let input = Vec::from_slice(alloc, input.as_bytes())?;
     Ok(MemSource::new(input, 4096, vec![in alloc; failing_read]?))
@@ -65,6 +78,7 @@ fn a_scenario_gives_its_report(rt: HostRuntime) -> Result<(), Fail> {
         (SMALLEST, Status::Done, SMALLEST_REPORT),
         (LOST, Status::Done, LOST_REPORT),
         (LOCKED, Status::Done, LOCKED_REPORT),
+        (PAGE_END, Status::Done, PAGE_END_REPORT),
         ("", Status::ScenarioRefused, "refused json\n"),
         (
             r#"{"version":1,"frames":4,"#,

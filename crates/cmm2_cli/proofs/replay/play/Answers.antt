@@ -2,11 +2,11 @@ use Rattle.std.proofs.Common.{◌≡◌, ◌++◌, List, All, inl, ap, subst, sy
 use Rattle.cmm_types.specs.declared.event.Event.{Event}
 use Rattle.cmm_types.specs.InRange.{EventInRange}
 use Rattle.cmm_report.specs.Report.{report_of}
-use Rattle.cmm_world.specs.WorldState.{WorldFit, opening_world}
-use Rattle.cmm_world.specs.WorldView.{WorldView, plans_of}
-use Rattle.cmm_world.specs.Failures.{WorldCounted}
+use Rattle.cmm_world.specs.WorldState.{opening_world}
+use Rattle.cmm_world.specs.WorldView.{WorldView, opening_view, plans_of}
+use Rattle.cmm_world.specs.WorldFit.{KeepsWorld}
 use Rattle.cmm_world.specs.Run.{answers_of, world_after, run_of}
-use Rattle.cmm_world.specs.Headline.{NoStepDiscardsWrongly}
+use Rattle.cmm_world.specs.Steps.{IsStepByStep, AtEach}
 use Rattle.cmm_world.proofs.LegalRuns.{legal_run, plans_opening}
 use Rattle.cmm2_cli.specs.declared.status.Status.TheVariants.{Done}
 use Rattle.cmm2_cli.specs.Reports.{reports_of}
@@ -26,14 +26,13 @@ returns g c =
     c.replay.ensures.answers ∙ ap (λ (v : WorldView). v.answers ++ answers_of v.state c.as_slice.result.now) c.in-Ok.ensures ∙ ap (answers_of (opening_world plan)) c.as_slice.ensures in
     let state : c.replay.new.self.state ≡ (run_of plan).1 =
     c.replay.ensures.state ∙ ap (λ (v : WorldView). world_after v.state c.as_slice.result.now) c.in-Ok.ensures ∙ ap (world_after (opening_world plan)) c.as_slice.ensures in
-    let plans : plans_of (run_of plan).1 ≡ plans_of (opening_world plan) =
-    ap plans_of (sym state) ∙ c.replay.ensures.plans ∙ ap (λ (v : WorldView). plans_of v.state) c.in-Ok.ensures in
-    let discards : NoStepDiscardsWrongly (opening_world plan) plan.schedule =
-    subst (NoStepDiscardsWrongly (opening_world plan)) c.as_slice.ensures
-    (subst (λ (v : WorldView). NoStepDiscardsWrongly v.state c.as_slice.result.now) c.in-Ok.ensures c.replay.ensures.discards) in
+    let keeps : KeepsWorld (opening_view plan) c.replay.new.self = subst (λ (v : WorldView). KeepsWorld v c.replay.new.self) c.in-Ok.ensures c.replay.ensures.kept in
+    let steps : AtEach IsStepByStep (opening_world plan) plan.schedule =
+    subst (AtEach IsStepByStep (opening_world plan)) c.as_slice.ensures
+    (subst (λ (v : WorldView). AtEach IsStepByStep v.state c.as_slice.result.now) c.in-Ok.ensures c.replay.ensures.steps) in
     inl (record {
       report =
           subst (λ w. Answers g.K.Sink.faults g.K.Sink.written c.args.out.now c.report.new.out (report_of false (run_of plan).0 (reports_of w)) Done c.report.result) state
           (subst (λ list. Answers g.K.Sink.faults g.K.Sink.written c.args.out.now c.report.new.out (report_of false list (reports_of c.replay.new.self.state)) Done c.report.result) answers c.report.ensures);
-      run = legal_run plan plans (subst WorldFit state c.replay.ensures.fit) (subst WorldCounted state c.replay.ensures.failures) discards;
+      run = legal_run plan c.replay.new.self state keeps steps;
     })

@@ -1,19 +1,17 @@
-use Rattle.std.proofs.Common.{◌≡◌, ◌++◌, false, subst}
-use Rattle.cmm_io.specs.SinkBytes.{behind, WrotePrefix}
+use Rattle.std.proofs.Common.{◌++◌, false, subst}
+use Rattle.cmm_io.specs.SinkBytes.{Writes}
+use Rattle.cmm_io.specs.SinkBytesLaws.{Writes-then, Writes-stop}
 use Rattle.cmm_report.specs.Lines.{head_line}
 use Rattle.cmm_report.specs.Report.{events_text, guests_text}
 use Rattle.cmm2_cli.specs.Reports.{reports_of}
-use Rattle.cmm2_cli.proofs.Wrote.{failed_first, wrote_both, failed_second}
 use Rattle.cmm2_cli.proofs.report.write_body.Goals as goal
 
-pub returns-in_err-write_answers-clause-prefix : goal.returns-in_err-write_answers-clause-prefix
-returns-in_err-write_answers-clause-prefix g c =
-    failed_first c.from_residual.result (g.K.Sink.written c.args.out.now) (head_line false ++ events_text 0 c.args.world.now.answers) (guests_text 0 (reports_of c.args.world.now.state)) (g.K.Sink.written c.write_answers.new.out) (subst (λ a. WrotePrefix (g.K.Sink.written c.args.out.now) (head_line false ++ events_text 0 a) (g.K.Sink.written c.write_answers.new.out)) c.answers.ensures c.in_err-write_answers.ensures.prefix)
+pub returns-in_err-write_answers : goal.returns-in_err-write_answers
+returns-in_err-write_answers g c =
+    subst (λ answers. Writes g.K.Sink.faults g.K.Sink.written c.args.out.now c.write_answers.new.out (head_line false ++ events_text 0 answers ++ guests_text 0 (reports_of c.args.world.now.state)) c.from_residual.result) c.answers.ensures
+    (Writes-stop g.K.Sink.faults g.K.Sink.written _ _ (head_line false ++ events_text 0 c.answers.result.now) (guests_text 0 (reports_of c.args.world.now.state)) _ _ c.from_residual.ensures.0 c.in_err-write_answers.ensures)
 
-pub returns-clause-wrote : goal.returns-clause-wrote
-returns-clause-wrote g c =
-    wrote_both c.write_guests.result (g.K.Sink.written c.args.out.now) (g.K.Sink.written c.write_answers.new.out) (g.K.Sink.written c.write_guests.new.out) (head_line false ++ events_text 0 c.args.world.now.answers) (guests_text 0 (reports_of c.args.world.now.state)) (subst (λ a. g.K.Sink.written c.write_answers.new.out ≡ behind (g.K.Sink.written c.args.out.now) (head_line false ++ events_text 0 a)) c.answers.ensures c.in_ok-write_answers.ensures.wrote) c.write_guests.ensures.wrote
-
-pub returns-clause-prefix : goal.returns-clause-prefix
-returns-clause-prefix g c =
-    failed_second c.write_guests.result (g.K.Sink.written c.args.out.now) (g.K.Sink.written c.write_answers.new.out) (g.K.Sink.written c.write_guests.new.out) (head_line false ++ events_text 0 c.args.world.now.answers) (guests_text 0 (reports_of c.args.world.now.state)) (subst (λ a. g.K.Sink.written c.write_answers.new.out ≡ behind (g.K.Sink.written c.args.out.now) (head_line false ++ events_text 0 a)) c.answers.ensures c.in_ok-write_answers.ensures.wrote) c.write_guests.ensures.prefix
+pub returns : goal.returns
+returns g c =
+    subst (λ answers. Writes g.K.Sink.faults g.K.Sink.written c.args.out.now c.write_guests.new.out (head_line false ++ events_text 0 answers ++ guests_text 0 (reports_of c.args.world.now.state)) c.write_guests.result) c.answers.ensures
+    (Writes-then g.K.Sink.faults g.K.Sink.written _ _ _ (head_line false ++ events_text 0 c.answers.result.now) (guests_text 0 (reports_of c.args.world.now.state)) _ _ c.in_ok-write_answers.ensures c.write_guests.ensures)
