@@ -4,7 +4,7 @@ use Rattle.std.proofs.Common.{◌∙◌, inl, inr, sym, ap, subst, arith}
 use Rattle.std.specs.Io.KnownBytes.{Consumes}
 use Rattle.std.proofs.Math.Seq.{take-append_seam}
 use Rattle.std.proofs.lemmas.List.{length-append, take_all}
-use Rattle.cmm_io.specs.SourceBytes.{HasTaken, HasTakenCount, HasTakenAtMost, IsWhole}
+use Rattle.cmm_io.specs.SourceBytes.{HasTaken, HasTakenCount, HasTakenAtMost, IsRest}
 use Rattle.cmm2_cli.specs.declared.replay.TheConstants.{MAX_INPUT}
 use Rattle.cmm2_cli.specs.declared.refusal.Refusal.TheVariants.{Long}
 use Rattle.cmm2_cli.specs.declared.status.Status.{Status}
@@ -28,7 +28,8 @@ short_whole : (bytes : List ℕ) → length bytes ≤ MAX_INPUT + 1 → bytes �
 short_whole bytes few = sym (take_all (MAX_INPUT + 1) bytes few)
 
 module _ {S : Type 0} (rest : S → Option (List ℕ)) (given : S → ℕ) (before after : S) {K : Type 0} (faults : K → ℕ) (written : K → Option (List ℕ)) (old new : K) where
-  Long_told : (bytes : List ℕ) (result : Status) → rest before ≡ Some bytes → HasTakenCount rest given before after (MAX_INPUT + 1) → Answers faults written old new (refusal_text Long) ScenarioRefused result → RefusesLong rest given before after faults written old new bytes result
+  Long_told : (bytes : List ℕ) (result : Status) → rest before ≡ Some bytes → HasTakenCount rest given before after (MAX_INPUT + 1)
+      → Answers faults written old new (refusal_text Long) ScenarioRefused result → RefusesLong rest given before after faults written old new bytes result
   Long_told bytes result told taken answer =
       let parts = front bytes (rest after) taken.0 (subst (λ known. Consumes known (rest after) taken.0) told taken.2.lost) in
       let same : taken.0 ≡ taken_of bytes = sym parts.0 ∙ ap (λ n. take n bytes) taken.1 in
@@ -44,7 +45,8 @@ module _ {S : Type 0} (rest : S → Option (List ℕ)) (given : S → ℕ) (befo
   long_answer result taken answer = if_some (rest before) _ (λ bytes told. inr (inl (Long_told bytes result told taken answer)))
 
   -- and where it isn't: the bytes that were taken are such an input
-  pub long_some : (result : Status) → HasTakenCount rest given before after (MAX_INPUT + 1) → Answers faults written old new (refusal_text Long) ScenarioRefused result → AnswersSome rest given before after faults written old new result
+  pub long_some : (result : Status) → HasTakenCount rest given before after (MAX_INPUT + 1) → Answers faults written old new (refusal_text Long) ScenarioRefused result
+      → AnswersSome rest given before after faults written old new result
   long_some result taken answer = inr (
     taken.0,
     inl (record {
@@ -54,21 +56,24 @@ module _ {S : Type 0} (rest : S → Option (List ℕ)) (given : S → ℕ) (befo
     }),
   )
 
-  Whole : (bytes : List ℕ) (result : Status) → length bytes ≤ MAX_INPUT → HasTaken rest given before after bytes → AnswersBytes faults written old new bytes result → AnswersWhole rest given before after faults written old new bytes result
+  Whole : (bytes : List ℕ) (result : Status) → length bytes ≤ MAX_INPUT → HasTaken rest given before after bytes → AnswersBytes faults written old new bytes result
+      → AnswersWhole rest given before after faults written old new bytes result
   Whole bytes result few taken answer = record {
     short = few;
     taken = subst (HasTaken rest given before after) (short_whole bytes (omega arith)) taken;
     answer = answer;
   }
 
-  is_told : (bytes read : List ℕ) → rest before ≡ Some bytes → IsWhole (rest before) read → read ≡ bytes
-  is_told bytes read told whole = subst (λ known. IsWhole known read) told whole
+  is_told : (bytes read : List ℕ) → rest before ≡ Some bytes → IsRest (rest before) read → read ≡ bytes
+  is_told bytes read told whole = subst (λ known. IsRest known read) told whole
 
   -- what an input within the limit is answered, where it is told, and where it isn't
-  pub whole_answer : (read : List ℕ) (result : Status) → IsWhole (rest before) read → length read ≤ MAX_INPUT → HasTaken rest given before after read → AnswersBytes faults written old new read result
+  pub whole_answer : (read : List ℕ) (result : Status) → IsRest (rest before) read → length read ≤ MAX_INPUT → HasTaken rest given before after read → AnswersBytes faults written old new read result
       → IfSome (rest before) (λ bytes. (result ≡ ReadFault) ⊎ AnswersInput rest given before after faults written old new bytes result)
   whole_answer read result whole few taken answer =
-      if_some (rest before) _ (λ bytes told. inr (inr (inl (subst (λ b. AnswersWhole rest given before after faults written old new b result) (is_told bytes read told whole) (Whole read result few taken answer)))))
+      if_some (rest before) _ (λ bytes told. inr (inr (inl (subst (λ b. AnswersWhole rest given before after faults written old new b result) (is_told bytes read told whole)
+      (Whole read result few taken answer)))))
 
-  pub whole_some : (read : List ℕ) (result : Status) → length read ≤ MAX_INPUT → HasTaken rest given before after read → AnswersBytes faults written old new read result → AnswersSome rest given before after faults written old new result
+  pub whole_some : (read : List ℕ) (result : Status) → length read ≤ MAX_INPUT → HasTaken rest given before after read → AnswersBytes faults written old new read result
+      → AnswersSome rest given before after faults written old new result
   whole_some read result few taken answer = inr (read, inr (inl (Whole read result few taken answer)))

@@ -6,7 +6,7 @@ use Rattle.std.specs.BTreeMap.{is_at}
 use Rattle.std.specs.FinMap.{FinMap, find, get, insert, remove, contains_key, from_entries, get-insert, get-remove, get-from_entries, same_map}
 use Rattle.cmm_flat.specs.declared.mapping.Place.{Place}
 use Rattle.cmm_flat.specs.Mapping.{place_cmp}
-use Rattle.cmm_flat.specs.PlaceLaws.{exact_places, places_total}
+use Rattle.cmm_flat.specs.Laws.PlaceLaws.{exact_places, places_total}
 
 module _ {X : Type 0} where
   -- what a list of entries has at a place
@@ -21,7 +21,8 @@ module _ {X : Type 0} where
   get_place es q = get-from_entries places_total es q ∙ find_place es q
 
   -- entries that differ at one place make maps that differ there
-  pub one_given : (es fs : List (Place × X)) (p : Place) (v : X) → ((q : Place) → found fs q ≡ cond (is_at (place_cmp p) q) (Some v) (found es q)) → from_entries {R = place_cmp} fs ≡ insert (from_entries es) p v
+  pub one_given : (es fs : List (Place × X)) (p : Place) (v : X) → ((q : Place) → found fs q ≡ cond (is_at (place_cmp p) q) (Some v) (found es q))
+      → from_entries {R = place_cmp} fs ≡ insert (from_entries es) p v
   one_given es fs p v h = same_map places_total exact_places _ _ (λ q.
       get_place fs q ∙ h q ∙ ap (λ b. cond b (Some v) (found es q)) ((eq_by_cmp_equiv places_total).symm p q)
       ∙ sym (get-insert places_total (from_entries es) p v q ∙ ap (cond (is_at (place_cmp q) p) (Some v)) (get_place es q)))

@@ -12,14 +12,14 @@ use Rattle.cmm_types.specs.declared.command.Cause.TheVariants.{NoPage}
 use Rattle.cmm_flat.specs.declared.mapping.Place.{Place}
 use Rattle.cmm_flat.specs.declared.mapping.Mapping.{Mapping}
 use Rattle.cmm_flat.specs.declared.mapping.Shown.TheVariants.{Anonymous}
-use Rattle.cmm_flat.specs.Bytes.{zeros, bytes_at}
+use Rattle.cmm_types.specs.Bytes.{zeros, bytes_at}
 use Rattle.cmm_flat.specs.Mapping.{place_cmp, written}
 use Rattle.cmm_flat.specs.State.{FlatState, opening, mapping_at, place_of}
 use Rattle.cmm_flat.specs.Flat.{refusal_of, is_full, with_mapping, without_mapping, none_pinned, flat_step}
-use Rattle.cmm_flat.specs.StepLaws.{mapping_at-with_mapping, mapping_at-without_mapping, step_read, step_map_anon, step_unmap, step_no_mapping_load, load_accepted, step_load, step_store}
-use Rattle.cmm_flat.specs.SumLaws.{sum_over-empty, sum_over-insert, number_before}
+use Rattle.cmm_flat.specs.Laws.StepLaws.{mapping_at-with_mapping, mapping_at-without_mapping, step_read, step_map_anon, step_unmap, step_no_mapping_load, load_accepted, step_load, step_store}
+use Rattle.cmm_flat.specs.Laws.SumLaws.{sum_over-empty, sum_over-insert, number_before}
 use Rattle.cmm_flat.specs.Legal.{Walk, IsNext, after, Legal, anonymous_pages, sum_over, over_live, start_of}
-use Rattle.cmm_flat.specs.LegalLaws.{LegalFrom-step}
+use Rattle.cmm_flat.specs.Laws.LegalLaws.{LegalFrom-step}
 use Rattle.cmm_flat.specs.WorkedJournals.{entry, hello, hellp, reads_twice, read_twice, stores_twice, stored_twice, unmaps_and_loads, unmapped_first, loaded_first}
 
 length-file : length (hello ++ zeros 4091) ≡ 4096

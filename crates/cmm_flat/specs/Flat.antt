@@ -13,8 +13,8 @@ use Rattle.cmm_types.specs.declared.command.FlatRefusal.TheVariants.{NoMapping, 
 use Rattle.cmm_flat.specs.declared.mapping.Mapping.{Mapping}
 use Rattle.cmm_flat.specs.declared.mapping.Shown.{Shown}
 use Rattle.cmm_flat.specs.declared.mapping.Shown.TheVariants.{OfFile, Anonymous}
-use Rattle.cmm_flat.specs.Bytes.{zeros, bytes_at, with_bytes}
-use Rattle.cmm_flat.specs.Mapping.{length_of, is_writable, written, with_pin}
+use Rattle.cmm_types.specs.Bytes.{zeros, bytes_at, with_bytes}
+use Rattle.cmm_flat.specs.Mapping.{length_of, shows_writable, written, with_pin}
 use Rattle.cmm_flat.specs.State.{FlatState, place_of, mapping_at, file_at}
 
 -- a test of the live mapping, which fails where there is none
@@ -66,7 +66,7 @@ refusals state process (Store number off bytes) =
     let mapping = mapping_at state process number in
     (not (is_some mapping), NoMapping)
     ∷ (not (of_live (in_mapping off (length bytes)) mapping), OutOfRange)
-    ∷ (not (of_live (λ m. is_writable m.shown) mapping), ReadOnly) ∷ []
+    ∷ (not (of_live (λ m. shows_writable m.shown) mapping), ReadOnly) ∷ []
 refusals state process (Pin number page) =
     let mapping = mapping_at state process number in
     (not (is_some mapping), NoMapping)
@@ -78,13 +78,13 @@ refusals state process (Unpin number page) =
     ∷ (not (of_live (has_page page) mapping), OutOfRange)
     ∷ (not (of_live (is_pinned page) mapping), NotPinned) ∷ []
 
-abbrev pub first_of : List (Bool × FlatRefusal) → Option FlatRefusal
-first_of [] = None
-first_of (reason ∷ reasons) = if reason.0 then Some reason.1 else first_of reasons
+abbrev pub first_refusal : List (Bool × FlatRefusal) → Option FlatRefusal
+first_refusal [] = None
+first_refusal (reason ∷ reasons) = if reason.0 then Some reason.1 else first_refusal reasons
 
 -- the refusal of an operation, if it is refused
 abbrev pub refusal_of : FlatState → ℕ → Op → Option FlatRefusal
-refusal_of state process op = first_of (refusals state process op)
+refusal_of state process op = first_refusal (refusals state process op)
 
 -- the bytes of what a mapping shows
 abbrev pub loaded : List (List ℕ) → Shown → ℕ → ℕ → List ℕ

@@ -1,14 +1,6 @@
-pub mod Bytes
-pub mod BytesLaws
 pub mod Mapping
-pub mod PlaceLaws
 pub mod State
 pub mod Flat
-pub mod SoundLaws
-pub mod FlatLaws
-pub mod StepLaws
 pub mod Legal
-pub mod RangeLaws
-pub mod SumLaws
-pub mod LegalLaws
 pub mod WorkedJournals
+pub mod Laws

@@ -8,7 +8,7 @@ use Rattle.cmm_flat.specs.declared.mapping.Place.{Place}
 use Rattle.cmm_flat.specs.declared.mapping.Mapping.{Mapping}
 use Rattle.cmm_flat.specs.declared.mapping.Shown.{Shown}
 use Rattle.cmm_flat.specs.declared.mapping.Shown.TheVariants.{OfFile, Anonymous}
-use Rattle.cmm_flat.specs.Bytes.{with_bytes}
+use Rattle.cmm_types.specs.Bytes.{with_bytes}
 
 -- by process, and then by number
 abbrev pub place_cmp : Place → Place → Ordering
@@ -40,9 +40,9 @@ abbrev pub length_of : Mapping → ℕ
 length_of mapping = PAGE * length mapping.pins
 
 -- anonymous mappings are writable
-abbrev pub is_writable : Shown → Bool
-is_writable (OfFile file first writable) = writable
-is_writable (Anonymous bytes) = true
+abbrev pub shows_writable : Shown → Bool
+shows_writable (OfFile file first writable) = writable
+shows_writable (Anonymous bytes) = true
 
 -- bytes of its own, if it has such, reach to len bytes from off on
 abbrev pub HasRoom : Shown → ℕ → ℕ → Type 0

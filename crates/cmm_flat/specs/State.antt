@@ -9,7 +9,7 @@ use Rattle.cmm_flat.specs.declared.mapping.Place.{Place}
 use Rattle.cmm_flat.specs.declared.mapping.Mapping.{Mapping}
 use Rattle.cmm_flat.specs.declared.mapping.Shown.{Shown}
 use Rattle.cmm_flat.specs.declared.mapping.Shown.TheVariants.{OfFile, Anonymous}
-use Rattle.cmm_flat.specs.Bytes.{zeros}
+use Rattle.cmm_types.specs.Bytes.{zeros}
 use Rattle.cmm_flat.specs.Mapping.{place_cmp, coded_place, coded_mapping}
 
 pub record FlatState : Type 0 where
@@ -17,7 +17,8 @@ pub record FlatState : Type 0 where
   pub mappings : finite.FinMap place_cmp Mapping
 
 abbrev pub coded_state : Coded FlatState
-coded_state = code_by (List (List ℕ) × finite.FinMap place_cmp Mapping) (coded× (coded_list (coded_list coded_ℕ)) (finite.code coded_place coded_mapping)) (λ s. (s.files, s.mappings)) (λ p. record { files = p.0; mappings = p.1 }) (λ _. refl)
+coded_state = code_by (List (List ℕ) × finite.FinMap place_cmp Mapping) (coded× (coded_list (coded_list coded_ℕ)) (finite.code coded_place coded_mapping)) (λ s. (s.files, s.mappings))
+    (λ p. record { files = p.0; mappings = p.1 }) (λ _. refl)
 
 -- a file's head, followed by zeros
 abbrev pub opening_file : FilePlan → List ℕ

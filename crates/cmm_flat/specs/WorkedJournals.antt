@@ -14,8 +14,8 @@ use Rattle.cmm_types.specs.declared.command.FlatRefusal.TheVariants.{NoMapping}
 abbrev pub guest : ℕ → List FilePlan → List CpuPlan → GuestPlan
 guest pages files cpus = record { pages = pages; swap = 0; files = files; disk_fail = []; pager_fail = []; cpus = cpus }
 
-abbrev pub cpu_of : List Op → CpuPlan
-cpu_of commands = record { process = 0; commands = commands }
+abbrev pub cpu_with : List Op → CpuPlan
+cpu_with commands = record { process = 0; commands = commands }
 
 abbrev pub entry : ℕ → ℕ → Op → Reply → Entry
 entry cpu k op reply = record { cpu = cpu; k = k; op = op; reply = reply }
@@ -28,7 +28,7 @@ hellp = 0x68 ∷ 0x65 ∷ 0x6c ∷ 0x6c ∷ 0x70 ∷ []
 
 -- a guest that reads the file's head twice
 abbrev pub reads_twice : GuestPlan
-reads_twice = guest 4 (record { pages = 1; head = hello } ∷ []) (cpu_of (Read 0 0 5 ∷ Read 0 0 5 ∷ []) ∷ [])
+reads_twice = guest 4 (record { pages = 1; head = hello } ∷ []) (cpu_with (Read 0 0 5 ∷ Read 0 0 5 ∷ []) ∷ [])
 
 -- its journal, with the second entry's number and bytes
 abbrev pub read_twice : ℕ → List ℕ → List Entry
@@ -36,7 +36,7 @@ read_twice k bytes = entry 0 0 (Read 0 0 5) (Bytes hello) ∷ entry 0 k (Read 0 
 
 -- a guest of two pages that needs a third, without a swap slot
 abbrev pub stores_twice : GuestPlan
-stores_twice = guest 2 [] (cpu_of (MapAnon 0 3 ∷ Store 0 0 (0x61 ∷ []) ∷ Store 0 4096 (0x62 ∷ []) ∷ Load 0 8192 1 ∷ []) ∷ [])
+stores_twice = guest 2 [] (cpu_with (MapAnon 0 3 ∷ Store 0 0 (0x61 ∷ []) ∷ Store 0 4096 (0x62 ∷ []) ∷ Load 0 8192 1 ∷ []) ∷ [])
 
 -- its journal, with how many pages the failure says are pinned and without a slot
 abbrev pub stored_twice : ℕ → ℕ → List Entry
@@ -46,7 +46,7 @@ stored_twice pinned unslotted =
 
 -- a guest with a processor that unmaps what the other one loads
 abbrev pub unmaps_and_loads : GuestPlan
-unmaps_and_loads = guest 4 [] (cpu_of (MapAnon 0 1 ∷ Load 0 0 1 ∷ []) ∷ cpu_of (Unmap 0 ∷ []) ∷ [])
+unmaps_and_loads = guest 4 [] (cpu_with (MapAnon 0 1 ∷ Load 0 0 1 ∷ []) ∷ cpu_with (Unmap 0 ∷ []) ∷ [])
 
 -- the load comes after the unmap, and is refused
 abbrev pub unmapped_first : List Entry

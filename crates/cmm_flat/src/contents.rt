@@ -1,5 +1,6 @@
 ghost use Rattle.std.specs.Prelude.{◌≡◌, ◌≤◌, ◌+◌, ◌-◌, ◌++◌, length, IfOk};
-ghost use Rattle.cmm_flat.specs.Bytes.{bytes_at, with_bytes, zeros};
+ghost use Rattle.cmm_types.specs.declared.bytes.TheConstants.{MAX_BYTES};
+ghost use Rattle.cmm_types.specs.Bytes.{bytes_at, with_bytes, zeros};
 
 use crate::NoMemory;
 use cmm_types::Bytes64;
@@ -22,7 +23,7 @@ impl Model for Contents {
 
 impl Contents {
     /// `head`, followed by zeros up to `len` bytes.
-    #[tactic(auto, unfolding(crate::specs::Bytes::zeros))]
+    #[tactic(auto, unfolding(cmm_types::specs::Bytes::zeros))]
     pub fn new(alloc: Global, head: &[u8], len: usize) -> Result<Contents, NoMemory>
         requires { length head.now ≤ len }
         ensures { IfOk result (λ contents. contents ≡ head.now ++ zeros (len - length head.now)) }
@@ -33,7 +34,7 @@ impl Contents {
         Ok(Contents { bytes })
     }
 
-    #[tactic(auto, unfolding(crate::specs::Bytes::zeros))]
+    #[tactic(auto, unfolding(cmm_types::specs::Bytes::zeros))]
     pub fn zeros(alloc: Global, len: usize) -> Result<Contents, NoMemory>
         ensures { IfOk result (λ contents. contents ≡ zeros len) }
     {
@@ -50,7 +51,7 @@ impl Contents {
     /// The `len` bytes from `off` on.
     pub fn bytes_at(&self, off: usize, len: usize) -> Bytes64
         requires within { off + len ≤ length self.now }
-        requires few { len ≤ 64 }
+        requires few { len ≤ MAX_BYTES }
         ensures { result ≡ bytes_at self.now off len }
     {
         Bytes64::from_slice(&self.bytes[off..off + len]).unwrap()

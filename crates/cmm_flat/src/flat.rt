@@ -1,4 +1,6 @@
 ghost use Rattle.std.specs.Prelude.{◌≡◌, ◌≤◌, ◌<◌, ◌+◌, ◌*◌, ◌^◌, ℕ, length, IfOk, IfSome, OnErr, All, Some, None};
+ghost use Rattle.cmm_types.specs.declared.bytes.TheConstants.{MAX_BYTES};
+ghost use Rattle.cmm_types.specs.declared.command.TheConstants.{MAX_MAPPING_PAGES};
 ghost use Rattle.std.specs.Option.{option_copied};
 ghost use Rattle.cmm_types.specs.declared.command.Op.TheVariants.{Read, Write, Sync, MapFile, MapAnon, Unmap, Load, Store, Pin, Unpin};
 ghost use Rattle.cmm_types.specs.InRange.{FileInRange, OpInRange};
@@ -72,7 +74,7 @@ impl Flat {
     }
 
     fn read(&self, file: u32, off: u32, len: u32) -> Reply
-        requires few { len ≤ 64 }
+        requires few { len ≤ MAX_BYTES }
         ensures { (process : ℕ) → (self.now, result) ≡ flat_step self.now process (Read file off len) }
     {
         if !self.in_file(file, off as usize, len as usize) {
@@ -111,7 +113,7 @@ impl Flat {
         count: u32,
         writable: bool,
     ) -> Result<Reply, NoMemory>
-        requires few { count ≤ 1024 }
+        requires few { count ≤ MAX_MAPPING_PAGES }
         ensures ok { IfOk result (λ reply. (self.new, reply) ≡ flat_step self.old process (MapFile map file first count writable)) }
         ensures err { OnErr result (self.new ≡ self.old) }
     {
@@ -144,7 +146,7 @@ impl Flat {
         map: u32,
         count: u32,
     ) -> Result<Reply, NoMemory>
-        requires few { count ≤ 1024 }
+        requires few { count ≤ MAX_MAPPING_PAGES }
         ensures ok { IfOk result (λ reply. (self.new, reply) ≡ flat_step self.old process (MapAnon map count)) }
         ensures err { OnErr result (self.new ≡ self.old) }
     {
@@ -179,7 +181,7 @@ impl Flat {
     }
 
     fn load(&self, process: u32, map: u32, off: u32, len: u32) -> Reply
-        requires few { len ≤ 64 }
+        requires few { len ≤ MAX_BYTES }
         ensures { (self.now, result) ≡ flat_step self.now process (Load map off len) }
     {
         let Some(mapping) = self.mapping(process, map) else {

@@ -1,4 +1,5 @@
 ghost use Rattle.std.specs.Prelude.{◌≡◌, ◌<◌, ◌≤◌, length};
+ghost use Rattle.cmm_types.specs.declared.command.TheConstants.{MAX_MAPPING_PAGES};
 ghost use Rattle.cmm_flat.specs.Mapping.{HasRoom, length_of, written, with_pin};
 
 use crate::contents::Contents;
@@ -37,7 +38,7 @@ pub struct Mapping {
 impl Mapping {
     /// Its pages in bytes.
     pub fn len(&self) -> usize
-        requires { length self.now.pins ≤ 1024 }
+        requires { length self.now.pins ≤ MAX_MAPPING_PAGES }
         ensures { result ≡ length_of self.now }
     {
         PAGE * self.pins.len()

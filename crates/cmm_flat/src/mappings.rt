@@ -1,4 +1,5 @@
 ghost use Rattle.std.specs.Prelude.{◌≡◌, ◌≤◌, ◌<◌, ◌+◌, ◌^◌, length, IfOk, OnOk, OnErr, OnSome, is_some, Some, None, false};
+ghost use Rattle.cmm_types.specs.declared.plan.TheConstants.{MAX_LIVE_MAPPINGS};
 ghost use Rattle.std.specs.Option.{option_copied, ForSome};
 ghost use Rattle.std.specs.FinMap as finite;
 ghost use Rattle.cmm_flat.specs.Mapping.{place_cmp, HasRoom, written, with_pin};
@@ -56,7 +57,7 @@ impl Mappings {
     /// Adds a mapping at a place that has none.
     pub fn insert(&mut self, place: Place, mapping: Mapping) -> Result<(), NoMemory>
         requires new { finite.contains_key self.old place ≡ false }
-        requires few { finite.len self.old < 256 }
+        requires few { finite.len self.old < MAX_LIVE_MAPPINGS }
         ensures ok { OnOk result (self.new ≡ finite.insert self.old place mapping) }
         ensures err { OnErr result (self.new ≡ self.old) }
     {

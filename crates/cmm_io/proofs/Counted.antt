@@ -6,7 +6,7 @@ use Rattle.std.proofs.lemmas.Cmp.{nat_eq_equiv}
 use Rattle.std.proofs.lemmas.List.Elements.{All-head, All-tail}
 use Rattle.std.proofs.lemmas.List.Sums.{sum_by-cons, count_by-le-length}
 use Rattle.cmm_io.specs.Faults.{raised}
-use Rattle.cmm_io.specs.FailurePlan.{FailurePlan, in_order, is_in, plan_of, fails_next, after_call, after_next}
+use Rattle.cmm_io.specs.FailurePlan.{FailurePlan, in_order, is_in, failure_plan_of, fails_next, after_call, after_next}
 use Rattle.cmm_io.specs.Counted.{IsCounted, distinct, reached}
 use Rattle.cmm_io.proofs.Planned.{is_in-in_order}
 
@@ -52,7 +52,7 @@ is_in-bound most (x ∷ xs) call each there = at (x == call) refl there (λ behi
     at false other behind rest = rest behind
 
 -- before the first call
-pub counted-opening : (numbers : List ℕ) → IsCounted numbers (plan_of numbers)
+pub counted-opening : (numbers : List ℕ) → IsCounted numbers (failure_plan_of numbers)
 counted-opening numbers = record { planned = refl; calls = omega arith; failed = omega arith }
 
 -- a call keeps it: a planned number is reached once

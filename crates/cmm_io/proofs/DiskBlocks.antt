@@ -9,15 +9,16 @@ use Rattle.std.proofs.lemmas.List.FromFn.{length-range_with_len, length-map-rang
 use Rattle.cmm_types.specs.declared.page.TheConstants.{PAGE}
 use Rattle.cmm_types.specs.declared.plan.FilePlan.{FilePlan}
 use Rattle.cmm_types.specs.InRange.{FileInRange, file_pages_of}
-use Rattle.cmm_io.specs.DiskOf.{zeros, page_at, file_bytes, file_blocks, disk_of}
+use Rattle.cmm_io.specs.DiskOf.{page_at, file_bytes, file_blocks, disk_of}
+use Rattle.cmm_types.specs.Bytes.{zero_page}
 use Rattle.cmm_io.specs.Padded.{padded}
 
-pub padded_nothing : (bytes : List ℕ) → bytes ≡ padded [] → bytes ≡ zeros
-unfolding zeros
+pub padded_nothing : (bytes : List ℕ) → bytes ≡ padded [] → bytes ≡ zero_page
+unfolding zero_page
 padded_nothing bytes e = e
 
-pub length-zeros : length zeros ≡ PAGE
-unfolding zeros
+pub length-zeros : length zero_page ≡ PAGE
+unfolding zero_page
 length-zeros = length-replicate {A = ℕ} PAGE 0
 
 length-file_bytes : (file : FilePlan) → length file.head ≤ PAGE * file.pages → length (file_bytes file) ≡ PAGE * file.pages
@@ -44,22 +45,25 @@ whole_file file r =
 whole_files : (files : List FilePlan) → All FileInRange files → All (λ bytes. length bytes ≡ PAGE) (flat_map file_blocks files)
 whole_files [] r = All-nil (λ bytes. length bytes ≡ PAGE)
 whole_files (file ∷ files) r =
-    All-append (λ bytes. length bytes ≡ PAGE) (file_blocks file) (flat_map file_blocks files) (whole_file file (All-head FileInRange file files r)) (whole_files files (All-tail FileInRange file files r))
+    All-append (λ bytes. length bytes ≡ PAGE) (file_blocks file) (flat_map file_blocks files) (whole_file file (All-head FileInRange file files r))
+    (whole_files files (All-tail FileInRange file files r))
 
 pub whole_disk : (files : List FilePlan) (swap : ℕ) → All FileInRange files → All (λ bytes. length bytes ≡ PAGE) (disk_of files swap)
-whole_disk files swap r = All-append (λ bytes. length bytes ≡ PAGE) (flat_map file_blocks files) (replicate swap zeros) (whole_files files r) (All-replicate (λ bytes. length bytes ≡ PAGE) swap zeros length-zeros)
+whole_disk files swap r = All-append (λ bytes. length bytes ≡ PAGE) (flat_map file_blocks files) (replicate swap zero_page) (whole_files files r)
+    (All-replicate (λ bytes. length bytes ≡ PAGE) swap zero_page length-zeros)
 
 pub length-disk_of : (files : List FilePlan) (swap : ℕ) → length (disk_of files swap) ≡ file_pages_of files + swap
 length-disk_of files swap =
-    length-append (flat_map file_blocks files) (replicate swap zeros)
-    ∙ ap (λ n. length (flat_map file_blocks files) + n) (length-replicate swap zeros)
+    length-append (flat_map file_blocks files) (replicate swap zero_page)
+    ∙ ap (λ n. length (flat_map file_blocks files) + n) (length-replicate swap zero_page)
     ∙ ap (λ n. n + swap) (length-flat_map file_blocks files ∙ ap (λ f. sum_by f files) (fun_ext (λ file. length-map-range_with_len (page_at (file_bytes file)) 0 file.pages)))
 
 -- one more page behind the blocks
-pub page_more : (before blocks : List (List ℕ)) (block : List ℕ) (f : ℕ → List ℕ) (n : ℕ) → blocks ≡ before ++ map f (range_with_len 0 n) → block ≡ f n → blocks ++ block ∷ [] ≡ before ++ map f (range_with_len 0 (n + 1))
+pub page_more : (before blocks : List (List ℕ)) (block : List ℕ) (f : ℕ → List ℕ) (n : ℕ) → blocks ≡ before ++ map f (range_with_len 0 n) → block ≡ f n
+    → blocks ++ block ∷ [] ≡ before ++ map f (range_with_len 0 (n + 1))
 page_more before blocks block f n e b =
     ap (λ l. l ++ block ∷ []) e ∙ append_assoc before _ _ ∙ ap (λ x. before ++ (map f (range_with_len 0 n) ++ x ∷ [])) b ∙ ap (λ l. before ++ l) (sym (map-range_with_len_more f 0 n n (omega arith)))
 
-pub zeros_more : (before blocks : List (List ℕ)) (block : List ℕ) (n : ℕ) → blocks ≡ before ++ replicate n zeros → block ≡ padded [] → blocks ++ block ∷ [] ≡ before ++ replicate (n + 1) zeros
+pub zeros_more : (before blocks : List (List ℕ)) (block : List ℕ) (n : ℕ) → blocks ≡ before ++ replicate n zero_page → block ≡ padded [] → blocks ++ block ∷ [] ≡ before ++ replicate (n + 1) zero_page
 zeros_more before blocks block n e b =
-    ap (λ l. l ++ block ∷ []) e ∙ append_assoc before _ _ ∙ ap (λ x. before ++ (replicate n zeros ++ x ∷ [])) (padded_nothing block b) ∙ ap (λ l. before ++ l) (replicate_more n zeros)
+    ap (λ l. l ++ block ∷ []) e ∙ append_assoc before _ _ ∙ ap (λ x. before ++ (replicate n zero_page ++ x ∷ [])) (padded_nothing block b) ∙ ap (λ l. before ++ l) (replicate_more n zero_page)

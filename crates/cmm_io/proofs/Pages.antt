@@ -33,7 +33,8 @@ drop-append-any n xs ys =
     (cases_lt n (length xs))
 
 -- a part of size p from d on of some bytes with zeros behind them up to t
-filled_part : (p d t : ℕ) (head : List ℕ) → d + p ≤ t → length head ≤ t → take p (drop d (head ++ replicate (t - length head) 0)) ≡ take p (drop d head) ++ replicate (p - length (take p (drop d head))) 0
+filled_part : (p d t : ℕ) (head : List ℕ) → d + p ≤ t → length head ≤ t
+    → take p (drop d (head ++ replicate (t - length head) 0)) ≡ take p (drop d head) ++ replicate (p - length (take p (drop d head))) 0
 filled_part p d t head part fits =
     let room : p - length (drop d head) ≤ (t - length head) - (d - length head) = omega (arith, length-drop d head) in
     let rest : p - length (drop d head) ≡ p - length (take p (drop d head)) = omega (arith, length-take p (drop d head)) in
@@ -52,7 +53,8 @@ piece_of p d head from to f t =
     ∙ take_min p (drop d head)
 
 -- the block that is made of the slice is the file's page
-pub page_of_file : (file : FilePlan) (head block : List ℕ) (index from to : ℕ) → head ≡ file.head → length file.head ≤ PAGE * file.pages → index < file.pages → from ≡ min (length head) (PAGE * index) → to ≡ min (length head) (from + PAGE) → block ≡ padded (take (to - from) (drop from head)) → block ≡ page_at (file_bytes file) index
+pub page_of_file : (file : FilePlan) (head block : List ℕ) (index from to : ℕ) → head ≡ file.head → length file.head ≤ PAGE * file.pages → index < file.pages
+    → from ≡ min (length head) (PAGE * index) → to ≡ min (length head) (from + PAGE) → block ≡ padded (take (to - from) (drop from head)) → block ≡ page_at (file_bytes file) index
 page_of_file file head block index from to same fits below f t is =
     let next : index + 1 ≤ file.pages = omega arith in
     let part : PAGE * index + PAGE ≤ PAGE * file.pages = omega (arith, mul-le-mul_left PAGE next) in

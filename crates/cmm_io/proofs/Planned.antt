@@ -32,7 +32,10 @@ apart : (a b : ℕ) → (a ≡ b → ⊥) → (a == b) ≡ false
 apart a b ne = elim (a == b) as (λ t. (a == b) ≡ t → t ≡ false) [ true ↦ λ e. absurd (ne (eqb-true a b e)) | false ↦ λ _. refl ] refl
 
 -- what a search in ascending numbers found
-pub is_in-searched : (xs : List ℕ) (call : ℕ) (r : Result ℕ ℕ) → MatchResult r (λ i. (i < length xs) × (get_or xs i 0 ≡ call)) (λ i. (i ≤ length xs) × ((k : ℕ) → k < i → get_or xs k 0 < call) × ((k : ℕ) → i ≤ k → k < length xs → call < get_or xs k 0)) → is_ok r ≡ is_in xs call
+pub is_in-searched : (xs : List ℕ) (call : ℕ) (r : Result ℕ ℕ)
+    → MatchResult r (λ i. (i < length xs) × (get_or xs i 0 ≡ call)) (λ i. (i ≤ length xs) × ((k : ℕ) → k < i → get_or xs k 0 < call) × ((k : ℕ) → i ≤ k → k < length xs → call < get_or xs k 0))
+    → is_ok r ≡ is_in xs call
 is_in-searched xs call (Ok i) h = sym (list_any_at (λ n. n == call) xs i 0 h.0 (ap (λ n. n == call) h.1 ∙ nat_eq_equiv.refl call))
 is_in-searched xs call (Err i) h =
-    sym (list_any_none (λ n. n == call) xs (All-from_get_or (λ n. (n == call) ≡ false) xs 0 (λ k l. apart (get_or xs k 0) call (λ e. ⊎_elim (λ below. omega (arith, h.1 k below)) (λ above. omega (arith, h.2 k above l)) (cases_lt k i)))))
+    sym (list_any_none (λ n. n == call) xs (All-from_get_or (λ n. (n == call) ≡ false) xs 0
+    (λ k l. apart (get_or xs k 0) call (λ e. ⊎_elim (λ below. omega (arith, h.1 k below)) (λ above. omega (arith, h.2 k above l)) (cases_lt k i)))))

@@ -1,9 +1,9 @@
 -- What the loops of `read_all` and `write_all` keep.
 use Rattle.std.proofs.Common.{◌≡◌, ◌∙◌, ℕ, ◌+◌, ◌^◌, ◌<◌, ◌≤◌, List, [], ◌++◌, length, take, drop, Option, Some, None, refl, sym, ap, append_assoc, subst, arith}
-use Rattle.std.specs.Io.KnownBytes.{Consumes, IsAtEnd}
+use Rattle.std.specs.Io.KnownBytes.{Consumes}
 use Rattle.std.proofs.Math.Seq.{take-append_seam}
 use Rattle.std.proofs.lemmas.List.{length-take-le, length-drop, drop-drop, take-append-drop, drop-take, take-take, append-nil, length-append}
-use Rattle.cmm_io.specs.SourceBytes.{given_after, HasTaken, IsWhole, IsLonger}
+use Rattle.cmm_io.specs.SourceBytes.{given_after, HasTaken, IsLonger}
 
 Consumes-nothing : (known : Option (List ℕ)) → Consumes known known []
 Consumes-nothing None = tt
@@ -39,11 +39,6 @@ module _ {S : Type 0} (rest : S → Option (List ℕ)) (given : S → ℕ) where
   HasTaken-same old middle new bytes more first second none =
       subst (HasTaken rest given old new) (ap (λ l. bytes ++ l) none ∙ append-nil bytes) (HasTaken-then old middle new bytes more first second)
 
-pub whole_at_end : (old new : Option (List ℕ)) (bytes : List ℕ) → Consumes old new bytes → IsAtEnd new → IsWhole old bytes
-whole_at_end None new bytes lost end = tt
-whole_at_end (Some rest) None bytes lost end = absurd lost
-whole_at_end (Some rest) (Some left) bytes lost end = sym (lost ∙ ap (λ l. bytes ++ l) end ∙ append-nil bytes)
-
 pub longer : (old new : Option (List ℕ)) (bytes : List ℕ) (limit : ℕ) → Consumes old new bytes → limit < length bytes → IsLonger old limit
 longer None new bytes limit lost more = tt
 longer (Some rest) None bytes limit lost more = absurd lost
@@ -62,9 +57,11 @@ copied_front copy back n size = ap (λ k. take k (copy ++ back)) (sym size) ∙ 
 pub taken_from : (items copy back : List ℕ) (taken n : ℕ) → n ≤ length (drop taken items) → copy ≡ take n (drop taken items) → drop taken items ≡ take n (copy ++ back) ++ drop (taken + n) items
 taken_from items copy back taken n fits e =
     let size : length copy ≡ n = ap length e ∙ length-take-le n (drop taken items) fits in
-    sym (take-append-drop n (drop taken items)) ∙ ap (λ l. l ++ drop n (drop taken items)) (sym e ∙ sym (copied_front copy back n size)) ∙ ap (λ l. take n (copy ++ back) ++ l) (drop-drop n taken items)
+    sym (take-append-drop n (drop taken items)) ∙ ap (λ l. l ++ drop n (drop taken items)) (sym e ∙ sym (copied_front copy back n size))
+    ∙ ap (λ l. take n (copy ++ back) ++ l) (drop-drop n taken items)
 
-pub given_copied : (items copy back : List ℕ) (taken n given : ℕ) → n ≤ length (drop taken items) → copy ≡ take n (drop taken items) → taken ≡ given → length items < 2 ^ 64 → taken + n ≡ given_after given (length (take n (copy ++ back)))
+pub given_copied : (items copy back : List ℕ) (taken n given : ℕ) → n ≤ length (drop taken items) → copy ≡ take n (drop taken items) → taken ≡ given → length items < 2 ^ 64
+    → taken + n ≡ given_after given (length (take n (copy ++ back)))
 given_copied items copy back taken n given fits e same few =
     let size : length copy ≡ n = ap length e ∙ length-take-le n (drop taken items) fits in
     let front : length (take n (copy ++ back)) ≡ n = ap length (copied_front copy back n size) ∙ size in

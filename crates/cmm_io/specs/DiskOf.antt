@@ -1,12 +1,9 @@
 -- The blocks of a guest's disk: the pages of each file in order, and behind them the swap slots, which are zeros.
 use Rattle.std.specs.Prelude.{ℕ, ◌-◌, ◌*◌, List, ◌++◌, length, map, take, drop, replicate}
 use Rattle.std.specs.List.{flat_map, range_with_len}
+use Rattle.cmm_types.specs.Bytes.{zero_page}
 use Rattle.cmm_types.specs.declared.page.TheConstants.{PAGE}
 use Rattle.cmm_types.specs.declared.plan.FilePlan.{FilePlan}
-
--- a page of zeros
-unfoldable pub zeros : List ℕ
-zeros = replicate PAGE 0
 
 -- a file's bytes: its head, and zeros behind it up to the end of its last page
 abbrev pub file_bytes : FilePlan → List ℕ
@@ -20,4 +17,4 @@ abbrev pub file_blocks : FilePlan → List (List ℕ)
 file_blocks file = map (page_at (file_bytes file)) (range_with_len 0 file.pages)
 
 abbrev pub disk_of : List FilePlan → ℕ → List (List ℕ)
-disk_of files swap = flat_map file_blocks files ++ replicate swap zeros
+disk_of files swap = flat_map file_blocks files ++ replicate swap zero_page

@@ -16,9 +16,9 @@ AreBlocks count None = Unit {0}
 AreBlocks count (Some blocks) = (length blocks ≡ count) × All (λ bytes. length bytes ≡ PAGE) blocks
 
 -- these are a block's bytes, where they are told
-abbrev pub Holds : Option (List (List ℕ)) → ℕ → List ℕ → Type 0
-Holds None block bytes = Unit {0}
-Holds (Some blocks) block bytes = bytes ≡ slice_index_or blocks block []
+abbrev pub HasBlock : Option (List (List ℕ)) → ℕ → List ℕ → Type 0
+HasBlock None block bytes = Unit {0}
+HasBlock (Some blocks) block bytes = bytes ≡ slice_index_or blocks block []
 
 -- the blocks with one of them replaced
 abbrev pub with_block : Option (List (List ℕ)) → ℕ → List ℕ → Option (List (List ℕ))
@@ -37,7 +37,7 @@ pub record DiskFailed (before after : DiskView) : Type 0 where
 
 -- what each call with its answer does: a read leaves every block, a good write replaces its own
 abbrev pub DiskFollows : DiskView → DiskCall → DiskView → Type 0
-DiskFollows d (Read block (Ok done) bytes) e = DiskKeeps d e × (length bytes ≡ PAGE) × Holds d.blocks block bytes × (e.blocks ≡ d.blocks)
+DiskFollows d (Read block (Ok done) bytes) e = DiskKeeps d e × (length bytes ≡ PAGE) × HasBlock d.blocks block bytes × (e.blocks ≡ d.blocks)
 DiskFollows d (Read block (Err failed) bytes) e = DiskKeeps d e × (length bytes ≡ PAGE) × DiskFailed d e
 DiskFollows d (Write block bytes (Ok done)) e = DiskKeeps d e × (e.blocks ≡ with_block d.blocks block bytes)
 DiskFollows d (Write block bytes (Err failed)) e = DiskKeeps d e × DiskFailed d e

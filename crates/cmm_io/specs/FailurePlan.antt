@@ -19,8 +19,8 @@ abbrev pub is_in : List ℕ → ℕ → Bool
 is_in numbers call = list_any (λ number. number == call) numbers
 
 -- no call was made yet
-abbrev pub plan_of : List ℕ → FailurePlan
-plan_of numbers = record { calls = 0; planned = in_order numbers; faults = 0 }
+abbrev pub failure_plan_of : List ℕ → FailurePlan
+failure_plan_of numbers = record { calls = 0; planned = in_order numbers; faults = 0 }
 
 -- whether the next call's number is planned
 abbrev pub fails_next : FailurePlan → Bool

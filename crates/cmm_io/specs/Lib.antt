@@ -1,7 +1,6 @@
 pub mod Faults
 pub mod SourceBytes
 pub mod SinkBytes
-pub mod SinkBytesLaws
 pub mod DiskCall
 pub mod DiskView
 pub mod FailurePlan
@@ -11,3 +10,4 @@ pub mod Padded
 pub mod DiskState
 pub mod Counted
 pub mod StdEnds
+pub mod Laws

@@ -7,9 +7,9 @@ abbrev pub given_after : ℕ → ℕ → ℕ
 given_after given n = max given (min (given + n) (2 ^ 64 - 1))
 
 -- these are all bytes of the rest, where it is told
-abbrev pub IsWhole : Option (List ℕ) → List ℕ → Type 0
-IsWhole None bytes = Unit {0}
-IsWhole (Some rest) bytes = bytes ≡ rest
+abbrev pub IsRest : Option (List ℕ) → List ℕ → Type 0
+IsRest None bytes = Unit {0}
+IsRest (Some rest) bytes = bytes ≡ rest
 
 -- the rest has more bytes than this, where it is told
 abbrev pub IsLonger : Option (List ℕ) → ℕ → Type 0

@@ -1,5 +1,5 @@
 ghost use Rattle.std.specs.Prelude.{◌≡◌, ◌≤◌, IfOk};
-ghost use Rattle.cmm_io.specs.FailurePlan.{is_in, plan_of, fails_next, after_call, after_next};
+ghost use Rattle.cmm_io.specs.FailurePlan.{is_in, failure_plan_of, fails_next, after_call, after_next};
 
 use std::alloc::{AllocError, Global};
 use std::marker::Model;
@@ -28,7 +28,7 @@ impl Model for PlannedFailures {
 impl PlannedFailures {
     /// Plans these numbers. It takes no memory.
     pub fn new(mut numbers: Vec<u32>) -> PlannedFailures
-        ensures { result ≡ plan_of numbers.items }
+        ensures { result ≡ failure_plan_of numbers.items }
     {
         numbers.sort_unstable();
         PlannedFailures {
@@ -40,7 +40,7 @@ impl PlannedFailures {
 
     /// Plans these numbers.
     pub fn open(alloc: Global, numbers: &[u32]) -> Result<PlannedFailures, AllocError>
-        ensures { IfOk result (λ failures. failures ≡ plan_of numbers.now) }
+        ensures { IfOk result (λ failures. failures ≡ failure_plan_of numbers.now) }
     {
         let copy = Vec::from_slice(alloc, numbers)?;
         Ok(PlannedFailures::new(copy))

@@ -1,5 +1,5 @@
 ghost use Rattle.std.specs.Prelude.{◌≡◌, ◌≤◌, ◌<◌, ◌++◌, ◌↔◌, [], length, take, drop, IfOk, IfErr, IsErr, IsTrue};
-ghost use Rattle.cmm_io.specs.FailurePlan.{plan_of, fails_next, after_next, after_call};
+ghost use Rattle.cmm_io.specs.FailurePlan.{failure_plan_of, fails_next, after_next, after_call};
 ghost use Rattle.cmm_io.specs.SourceBytes.{HasTaken};
 ghost use Rattle.cmm_io.specs.MemoryStates.{told_rest, bytes_given, read_length, write_fails};
 
@@ -37,7 +37,7 @@ impl MemSource {
         ensures rest { result.rest ≡ bytes.items }
         ensures given { result.given ≡ 0 }
         ensures piece { result.piece ≡ piece }
-        ensures planned { result.failures ≡ plan_of fails.items }
+        ensures planned { result.failures ≡ failure_plan_of fails.items }
     {
         MemSource {
             bytes,
@@ -108,7 +108,7 @@ impl MemSink {
     pub fn open(alloc: Global, room: usize, fails: Vec<u32>) -> Result<MemSink, AllocError>
         ensures written { IfOk result (λ sink. sink.written ≡ []) }
         ensures room { IfOk result (λ sink. sink.room ≡ room) }
-        ensures planned { IfOk result (λ sink. sink.failures ≡ plan_of fails.items) }
+        ensures planned { IfOk result (λ sink. sink.failures ≡ failure_plan_of fails.items) }
     {
         let bytes = Vec::with_capacity(alloc, room)?;
         Ok(MemSink {

@@ -1,7 +1,7 @@
 ghost use Rattle.std.specs.Prelude.{◌≡◌, ◌≢◌, ◌+◌, ◌<◌, ◌≤◌, IfOk, OnOk, Err, vec_len};
 ghost use Rattle.std.specs.Io.KnownBytes.{IsAtEnd};
 ghost use Rattle.cmm_io.specs.Faults.{raised};
-ghost use Rattle.cmm_io.specs.SourceBytes.{IsWhole, IsLonger, HasTaken, HasTakenCount, HasTakenAtMost};
+ghost use Rattle.cmm_io.specs.SourceBytes.{IsRest, IsLonger, HasTaken, HasTakenCount, HasTakenAtMost};
 
 use crate::failed::Failed;
 use crate::source::Source;
@@ -24,7 +24,7 @@ const PIECE: usize = 4096;
 pub fn read_all<S: Source>(alloc: Global, src: &mut S, limit: usize) -> Result<Vec<u8>, ReadError>
     requires { limit < usize.MAX }
     // The whole input was taken.
-    ensures whole { IfOk result (λ bytes. IsWhole (S.rest src.old) bytes.items) }
+    ensures whole { IfOk result (λ bytes. IsRest (S.rest src.old) bytes.items) }
     ensures end { OnOk result (IsAtEnd (S.rest src.new)) }
     ensures short { IfOk result (λ bytes. vec_len bytes ≤ limit) }
     ensures taken { IfOk result (λ bytes. HasTaken S.rest S.given src.old src.new bytes.items) }

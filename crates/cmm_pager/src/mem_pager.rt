@@ -1,6 +1,6 @@
 ghost use Rattle.std.specs.Prelude.{◌≡◌, ◌≤◌, length, replicate, IfOk};
 ghost use Rattle.cmm_types.specs.declared.page.TheConstants.{PAGE};
-ghost use Rattle.cmm_io.specs.FailurePlan.{plan_of, fails_next, after_next};
+ghost use Rattle.cmm_io.specs.FailurePlan.{failure_plan_of, fails_next, after_next};
 ghost use Rattle.cmm_pager.specs.PagerFollows.{PagerFollows};
 ghost use Rattle.cmm_pager.specs.PagerStep.{PagerStep, block_tells};
 
@@ -68,7 +68,7 @@ impl Model for MemPager {
 impl MemPager {
     /// A pager before its first call; the calls with the numbers in `fails` fail.
     pub fn open(alloc: Global, fails: &[u32]) -> Result<MemPager, AllocError>
-        ensures { IfOk result (λ pager. pager ≡ plan_of fails.now) }
+        ensures { IfOk result (λ pager. pager ≡ failure_plan_of fails.now) }
     {
         let failures = PlannedFailures::open(alloc, fails)?;
         Ok(MemPager { failures })

@@ -41,7 +41,8 @@ made_same c d k m r s ec ek er = ap (λ x. reported x k r) ec ∙ ap (λ x. repo
 unended_same : (a b : Entry) → EntryFits a → EntryFits b → unended a ≡ unended b → entry_report a ≡ entry_report b
 unended_same a b fa fb e =
     let whole = sym (three_parts (decimal a.cpu) (decimal a.k) (reply_text a.reply)) ∙ e ∙ three_parts (decimal b.cpu) (decimal b.k) (reply_text b.reply) in
-    let first = split_same 32 (decimal a.cpu) (decimal b.cpu) (decimal a.k ++ (32 ∷ reply_text a.reply)) (decimal b.k ++ (32 ∷ reply_text b.reply)) (IsFree-decimal 32 (omega arith) a.cpu) (IsFree-decimal 32 (omega arith) b.cpu) whole in
+    let first = split_same 32 (decimal a.cpu) (decimal b.cpu) (decimal a.k ++ (32 ∷ reply_text a.reply)) (decimal b.k ++ (32 ∷ reply_text b.reply)) (IsFree-decimal 32 (omega arith) a.cpu)
+    (IsFree-decimal 32 (omega arith) b.cpu) whole in
     let second = split_same 32 (decimal a.k) (decimal b.k) (reply_text a.reply) (reply_text b.reply) (IsFree-decimal 32 (omega arith) a.k) (IsFree-decimal 32 (omega arith) b.k) first.1 in
     let cpu : a.cpu ≡ b.cpu = decimal_injective a.cpu b.cpu (omega (arith, fa.cpu)) (omega (arith, fb.cpu)) first.0 in
     let k : a.k ≡ b.k = decimal_injective a.k b.k (omega (arith, fa.k)) (omega (arith, fb.k)) second.0 in

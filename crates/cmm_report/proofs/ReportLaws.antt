@@ -150,7 +150,8 @@ free_guest number guest =
     let first = codes "guest " ++ decimal number in
     let second = first ++ codes " entries " ++ decimal (length guest.journal) in
     let third = second ++ codes " discards " ++ decimal guest.discards in
-    let entries = free_number (first ++ codes " entries ") (length guest.journal) (free_word first (codes " entries ") refl (free_number (codes "guest ") number (IsFree-text 10 (codes "guest ") refl))) in
+    let entries = free_number (first ++ codes " entries ") (length guest.journal)
+    (free_word first (codes " entries ") refl (free_number (codes "guest ") number (IsFree-text 10 (codes "guest ") refl))) in
     let discards = free_number (second ++ codes " discards ") guest.discards (free_word second (codes " discards ") refl entries) in
     free_number (third ++ codes " faults ") guest.faults (free_word third (codes " faults ") refl discards)
 
@@ -243,7 +244,8 @@ all_entries [] fits = tt
 all_entries (entry ∷ journal) fits = (is_entry entry fits.0, all_entries journal fits.1)
 
 -- the lines from the first guest's on give each guest's journal
-guests_same : (number : ℕ) (guests others : List GuestReport) → AllByRecursion Fits guests → AllByRecursion Fits others → rest_texts number guests ≡ rest_texts number others → SameJournals guests others
+guests_same : (number : ℕ) (guests others : List GuestReport) → AllByRecursion Fits guests → AllByRecursion Fits others → rest_texts number guests ≡ rest_texts number others
+    → SameJournals guests others
 guests_same number [] [] fa fb e = refl
 guests_same number [] (b ∷ others) fa fb e = absurd (omega (arith, ap (λ l. get_or (get_or l 0 []) 0 0) e))
 guests_same number (a ∷ guests) [] fa fb e = absurd (omega (arith, ap (λ l. get_or (get_or l 0 []) 0 0) e))
@@ -251,7 +253,8 @@ guests_same number (a ∷ guests) (b ∷ others) fa fb e =
     let more = rest_texts (number + 1) guests in
     let other_more = rest_texts (number + 1) others in
     let behind = tail_same (guest_head number a) (guest_head number b) (map unended a.journal ++ more) (map unended b.journal ++ other_more) e in
-    let parts = span_same IsEntry (map unended a.journal) (map unended b.journal) more other_more (all_entries a.journal fa.0) (all_entries b.journal fb.0) (no_entry (number + 1) guests) (no_entry (number + 1) others) behind in
+    let parts = span_same IsEntry (map unended a.journal) (map unended b.journal) more other_more (all_entries a.journal fa.0) (all_entries b.journal fb.0) (no_entry (number + 1) guests)
+    (no_entry (number + 1) others) behind in
     let text : journal_text a.journal ≡ journal_text b.journal = sym (joined_journal a.journal) ∙ ap joined parts.0 ∙ joined_journal b.journal in
     ap (λ x. x ∷ map lines_of guests) (lines_same a.journal b.journal fa.0 fb.0 text) ∙ ap (λ t. lines_of b ∷ t) (guests_same (number + 1) guests others fa.1 fb.1 parts.1)
 
@@ -269,5 +272,6 @@ journals_determined run other_run answers other_answers guests others fits other
     let lines = same_lines (report_texts run answers guests) (report_texts other_run other_answers others) (lines_report run answers guests fa) (lines_report other_run other_answers others fb)
     (joined_report run answers guests ∙ e ∙ sym (joined_report other_run other_answers others)) in
     let behind = tail_same (head_text run) (head_text other_run) (event_texts 0 answers ++ rest) (event_texts 0 other_answers ++ other_rest) lines in
-    let parts = span_same IsEvent (event_texts 0 answers) (event_texts 0 other_answers) rest other_rest (all_events 0 answers) (all_events 0 other_answers) (no_event 0 guests) (no_event 0 others) behind in
+    let parts = span_same IsEvent (event_texts 0 answers) (event_texts 0 other_answers) rest other_rest (all_events 0 answers) (all_events 0 other_answers) (no_event 0 guests)
+    (no_event 0 others) behind in
     guests_same 0 guests others fa fb parts.1

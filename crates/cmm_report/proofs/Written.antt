@@ -5,7 +5,7 @@ use Rattle.std.proofs.lemmas.List.Concat.{flat_map-append}
 use Rattle.cmm_types.specs.declared.event.Answer.{Answer}
 use Rattle.cmm_types.specs.declared.command.Entry.{Entry}
 use Rattle.cmm_io.specs.SinkBytes.{Writes}
-use Rattle.cmm_io.specs.SinkBytesLaws.{Writes-then, Writes-stop}
+use Rattle.cmm_io.specs.Laws.SinkBytesLaws.{Writes-then, Writes-stop}
 use Rattle.cmm_io.specs.declared.write.WriteFault.{WriteFault}
 use Rattle.cmm_report.specs.Lines.{event_line, entry_line}
 use Rattle.cmm_report.specs.Report.{events_text, journal_text}
@@ -21,9 +21,11 @@ module _ {K : Type 0} (faults : K → ℕ) (written : K → Option (List ℕ)) w
       subst (Wrote old new) (sym parts) (Writes-then faults written old middle new done piece tt (Ok tt) first second)
 
   -- what was done, and a piece that failed, with more to come
-  pub stopped : (old middle new : K) (done piece rest whole : List ℕ) (cause : WriteFault) (result : Result (Unit {0}) WriteFault) → whole ≡ done ++ (piece ++ rest) → IsErr result → Wrote old middle done → Writes faults written middle new piece {T = Unit {0}} {E = WriteFault} (Err cause) → Writes faults written old new whole result
+  pub stopped : (old middle new : K) (done piece rest whole : List ℕ) (cause : WriteFault) (result : Result (Unit {0}) WriteFault) → whole ≡ done ++ (piece ++ rest) → IsErr result
+      → Wrote old middle done → Writes faults written middle new piece {T = Unit {0}} {E = WriteFault} (Err cause) → Writes faults written old new whole result
   stopped old middle new done piece rest whole cause result parts failed first second =
-      subst (λ text. Writes faults written old new text result) (sym parts) (Writes-then faults written old middle new done (piece ++ rest) tt result first (Writes-stop faults written middle new piece rest cause result failed second))
+      subst (λ text. Writes faults written old new text result) (sym parts)
+      (Writes-then faults written old middle new done (piece ++ rest) tt result first (Writes-stop faults written middle new piece rest cause result failed second))
 
 split_at : {X : Type 0} (xs : List X) (k : ℕ) (x : X) → k < length xs → x ≡ get_or xs k x → xs ≡ take k xs ++ (x ∷ drop (k + 1) xs)
 split_at xs k x l e = sym (take-append-drop k xs) ∙ ap (λ r. take k xs ++ r) (drop_more xs k x l ∙ ap (λ y. y ∷ drop (k + 1) xs) (sym e))
@@ -47,7 +49,8 @@ events_more xs k x l e =
     ap (events_text 0) (take_split xs k x l e) ∙ events-append 0 (take k xs) (x ∷ [])
     ∙ ap (λ t. events_text 0 (take k xs) ++ t) (at_index k _ size (x ∷ []) ∙ append-nil (event_line k x))
 
-pub events_split : (xs : List Answer) (k : ℕ) (x : Answer) → k < length xs → x ≡ get_or xs k x → events_text 0 xs ≡ events_text 0 (take k xs) ++ (event_line k x ++ events_text (k + 1) (drop (k + 1) xs))
+pub events_split : (xs : List Answer) (k : ℕ) (x : Answer) → k < length xs → x ≡ get_or xs k x
+    → events_text 0 xs ≡ events_text 0 (take k xs) ++ (event_line k x ++ events_text (k + 1) (drop (k + 1) xs))
 events_split xs k x l e =
     let size : length (take k xs) ≡ k = length-take-le k xs (omega arith) in
     ap (events_text 0) (split_at xs k x l e) ∙ events-append 0 (take k xs) (x ∷ drop (k + 1) xs)

@@ -48,7 +48,8 @@ digits_value_front ds i digits short = digits_value_fits (take i ds) digits (ome
 worth_of : (d : ℕ) → 48 ≤ d → d ≤ 57 → digit_value d ≡ d - 48
 worth_of d low high = let a : nat_lt d 48 ≡ false = le-ltb _ _ low in let b : nat_lt d 58 ≡ true = lt-ltb _ _ (omega arith) in rw (a, b) refl
 
-pub digits_value_next : (ds : List ℕ) (i number digit : ℕ) → i < length ds → is_ascii_digit (get_or ds i 0) ≡ true → number ≡ digits_value 10 (take i ds) → digit ≡ get_or ds i 0 - 48 → number * 10 + digit ≡ digits_value 10 (take (i + 1) ds)
+pub digits_value_next : (ds : List ℕ) (i number digit : ℕ) → i < length ds → is_ascii_digit (get_or ds i 0) ≡ true → number ≡ digits_value 10 (take i ds) → digit ≡ get_or ds i 0 - 48
+    → number * 10 + digit ≡ digits_value 10 (take (i + 1) ds)
 digits_value_next ds i number digit lt here front last =
     let range = digit_range (get_or ds i 0) here in
     let worth : digit_value (get_or ds i 0) ≡ get_or ds i 0 - 48 = worth_of (get_or ds i 0) range.0 range.1 in

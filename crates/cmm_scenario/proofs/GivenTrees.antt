@@ -37,7 +37,8 @@ optional-given P default read (Some tree) d h = h tree
 pub member-given : {A : Type 0} (P : A → Type 0) (key : List ℕ) (read : Data → Result A ScenarioError) (tree : Data) → Reads P read → Given P (member_of key read tree)
 member-given P key read tree h = inside-given P key (required read (get key tree)) (required-given P read (get key tree) h)
 
-pub member_or-given : {A : Type 0} (P : A → Type 0) (key : List ℕ) (default : A) (read : Data → Result A ScenarioError) (tree : Data) → P default → Reads P read → Given P (member_or key default read tree)
+pub member_or-given : {A : Type 0} (P : A → Type 0) (key : List ℕ) (default : A) (read : Data → Result A ScenarioError) (tree : Data) → P default → Reads P read
+    → Given P (member_or key default read tree)
 member_or-given P key default read tree d h = inside-given P key (optional default read (get key tree)) (optional-given P default read (get key tree) d h)
 
 number_in-given : (low high : ℕ) (tree : Data) → Given (Between low high) (number_in low high tree)
@@ -76,5 +77,8 @@ list-given P low high read h tree =
     let count = length (trees_of items) in
     let fits = nat_le low count && nat_le count high in
     given_next (λ trees. Between low high (length trees)) (IsList P low high) (here (checked fits (trees_of items) Range)) _
-    (here-given (λ trees. Between low high (length trees)) (checked fits (trees_of items) Range) (given_checked (λ trees. Between low high (length trees)) fits (trees_of items) Range (λ t. (leb-true low count (and_parts (nat_le low count) (nat_le count high) t).0, leb-true count high (and_parts (nat_le low count) (nat_le count high) t).1))))
-    (λ trees b. given_map (AreItems P (length trees)) (IsList P low high) (each_from 0 read trees) (λ xs ps. record { some = omega (arith, b.0, ps.len); few = omega (arith, b.1, ps.len); each = ps.each }) (each-given P read h 0 trees)))
+    (here-given (λ trees. Between low high (length trees)) (checked fits (trees_of items) Range)
+    (given_checked (λ trees. Between low high (length trees)) fits (trees_of items) Range
+    (λ t. (leb-true low count (and_parts (nat_le low count) (nat_le count high) t).0, leb-true count high (and_parts (nat_le low count) (nat_le count high) t).1))))
+    (λ trees b. given_map (AreItems P (length trees)) (IsList P low high) (each_from 0 read trees)
+    (λ xs ps. record { some = omega (arith, b.0, ps.len); few = omega (arith, b.1, ps.len); each = ps.each }) (each-given P read h 0 trees)))

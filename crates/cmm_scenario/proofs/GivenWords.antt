@@ -11,9 +11,9 @@ use Rattle.cmm_types.specs.declared.page.Move.TheVariants.{Discard, Preserve, Br
 use Rattle.cmm_types.specs.declared.plan.GuestPlan.{GuestPlan}
 use Rattle.cmm_types.specs.InRange.{IsPiece, OpInRange, GuestHas, EventInRange}
 use Rattle.cmm_scenario.specs.declared.fault.Kind.TheVariants.{Range}
-use Rattle.cmm_scenario.specs.Words.{first_word, after_word, number_at, end_at, bytes_at, within}
-use Rattle.cmm_scenario.specs.Commands.{piece_of, read_of, write_of, sync_of, mode_at, mapfile_of, mapanon_of, unmap_of, load_of, store_of, page_of, pin_of, unpin_of, op_named, op_of}
-use Rattle.cmm_scenario.specs.Events.{existing, pair_of, processor_of, guest_page_of, cpu_turn_of, alone_of, move_of, reclaim_of, event_named, event_of}
+use Rattle.cmm_scenario.specs.Words.{leading_word, after_word, take_number, take_end, take_bytes, within}
+use Rattle.cmm_scenario.specs.Commands.{piece_of, read_of, write_of, sync_of, take_mode, mapfile_of, mapanon_of, unmap_of, load_of, store_of, mapping_page_of, pin_of, unpin_of, op_named, op_of}
+use Rattle.cmm_scenario.specs.Events.{existing, pair_of, processor_of, guest_page_of, cpu_turn_of, alone_of, host_move_of, reclaiming_of, event_named, event_of}
 use Rattle.cmm_scenario.proofs.Given.{Given, given_then, given_next, given_any, given_checked, given_if, ok_or-Some}
 
 abbrev pub Between : ℕ → ℕ → ℕ → Type 0
@@ -21,7 +21,8 @@ Between low high n = (low ≤ n) × (n ≤ high)
 
 pub within-given : (low high n : ℕ) → Given (Between low high) (within low high n)
 unfolding within
-within-given low high n = given_checked (Between low high) (nat_le low n && nat_le n high) n Range (λ h. (leb-true low n (and_parts (nat_le low n) (nat_le n high) h).0, leb-true n high (and_parts (nat_le low n) (nat_le n high) h).1))
+within-given low high n = given_checked (Between low high) (nat_le low n && nat_le n high) n Range
+    (λ h. (leb-true low n (and_parts (nat_le low n) (nat_le n high) h).0, leb-true n high (and_parts (nat_le low n) (nat_le n high) h).1))
 
 is_piece : (start len : ℕ) → Between 0 4194303 start → (nat_le 1 len && nat_le len MAX_BYTES && nat_le (start % PAGE + len) PAGE) ≡ true → IsPiece start len
 is_piece start len within h =
@@ -42,27 +43,30 @@ piece-given off len =
 pub read-given : (text : List ℕ) → Given OpInRange (read_of text)
 unfolding read_of
 read-given text =
-    given_any OpInRange (number_at text) _ (λ file. given_any OpInRange (number_at file.1) _ (λ off. given_any OpInRange (number_at off.1) _ (λ len. given_any OpInRange (end_at len.1) _ (λ _.
+    given_any OpInRange (take_number text) _ (λ file. given_any OpInRange (take_number file.1) _ (λ off. given_any OpInRange (take_number off.1) _ (λ len. given_any OpInRange (take_end len.1) _ (λ _.
     given_next (Between 0 63) OpInRange (within 0 63 file.0) _ (within-given 0 63 file.0) (λ number h.
     given_next (λ s. IsPiece s len.0) OpInRange (piece_of off.0 len.0) _ (piece-given off.0 len.0) (λ start piece. (omega (arith, h.1), piece)))))))
 
 write-given : (text : List ℕ) → Given OpInRange (write_of text)
 unfolding write_of
 write-given text =
-    given_any OpInRange (number_at text) _ (λ file. given_any OpInRange (number_at file.1) _ (λ off. given_any OpInRange (bytes_at off.1) _ (λ bytes. given_any OpInRange (end_at bytes.1) _ (λ _.
+    given_any OpInRange (take_number text) _ (λ file. given_any OpInRange (take_number file.1) _
+    (λ off. given_any OpInRange (take_bytes off.1) _ (λ bytes. given_any OpInRange (take_end bytes.1) _ (λ _.
     given_next (Between 0 63) OpInRange (within 0 63 file.0) _ (within-given 0 63 file.0) (λ number h.
     given_next (λ s. IsPiece s (length bytes.0)) OpInRange (piece_of off.0 (length bytes.0)) _ (piece-given off.0 (length bytes.0)) (λ start piece. (omega (arith, h.1), piece)))))))
 
 sync-given : (text : List ℕ) → Given OpInRange (sync_of text)
 unfolding sync_of
 sync-given text =
-    given_any OpInRange (number_at text) _ (λ file. given_any OpInRange (end_at file.1) _ (λ _.
+    given_any OpInRange (take_number text) _ (λ file. given_any OpInRange (take_end file.1) _ (λ _.
     given_next (Between 0 63) OpInRange (within 0 63 file.0) _ (within-given 0 63 file.0) (λ number h. omega (arith, h.1))))
 
 mapfile-given : (text : List ℕ) → Given OpInRange (mapfile_of text)
 unfolding mapfile_of
 mapfile-given text =
-    given_any OpInRange (number_at text) _ (λ map. given_any OpInRange (number_at map.1) _ (λ file. given_any OpInRange (number_at file.1) _ (λ first. given_any OpInRange (number_at first.1) _ (λ count. given_any OpInRange (mode_at count.1) _ (λ mode. given_any OpInRange (end_at mode.1) _ (λ _.
+    given_any OpInRange (take_number text) _ (λ map. given_any OpInRange (take_number map.1) _
+    (λ file. given_any OpInRange (take_number file.1) _ (λ first. given_any OpInRange (take_number first.1) _
+    (λ count. given_any OpInRange (take_mode count.1) _ (λ mode. given_any OpInRange (take_end mode.1) _ (λ _.
     given_next (Between 0 255) OpInRange (within 0 255 map.0) _ (within-given 0 255 map.0) (λ number m.
     given_next (Between 0 63) OpInRange (within 0 63 file.0) _ (within-given 0 63 file.0) (λ from f.
     given_next (Between 0 1023) OpInRange (within 0 1023 first.0) _ (within-given 0 1023 first.0) (λ start s.
@@ -72,7 +76,7 @@ mapfile-given text =
 mapanon-given : (text : List ℕ) → Given OpInRange (mapanon_of text)
 unfolding mapanon_of
 mapanon-given text =
-    given_any OpInRange (number_at text) _ (λ map. given_any OpInRange (number_at map.1) _ (λ count. given_any OpInRange (end_at count.1) _ (λ _.
+    given_any OpInRange (take_number text) _ (λ map. given_any OpInRange (take_number map.1) _ (λ count. given_any OpInRange (take_end count.1) _ (λ _.
     given_next (Between 0 255) OpInRange (within 0 255 map.0) _ (within-given 0 255 map.0) (λ number m.
     given_next (Between 1 1024) OpInRange (within 1 1024 count.0) _ (within-given 1 1024 count.0) (λ pages p.
     (omega (arith, m.1), record { start = omega arith; some = p.0; most = p.1 }))))))
@@ -80,45 +84,45 @@ mapanon-given text =
 unmap-given : (text : List ℕ) → Given OpInRange (unmap_of text)
 unfolding unmap_of
 unmap-given text =
-    given_any OpInRange (number_at text) _ (λ map. given_any OpInRange (end_at map.1) _ (λ _.
+    given_any OpInRange (take_number text) _ (λ map. given_any OpInRange (take_end map.1) _ (λ _.
     given_next (Between 0 255) OpInRange (within 0 255 map.0) _ (within-given 0 255 map.0) (λ number m. omega (arith, m.1))))
 
 load-given : (text : List ℕ) → Given OpInRange (load_of text)
 unfolding load_of
 load-given text =
-    given_any OpInRange (number_at text) _ (λ map. given_any OpInRange (number_at map.1) _ (λ off. given_any OpInRange (number_at off.1) _ (λ len. given_any OpInRange (end_at len.1) _ (λ _.
+    given_any OpInRange (take_number text) _ (λ map. given_any OpInRange (take_number map.1) _ (λ off. given_any OpInRange (take_number off.1) _ (λ len. given_any OpInRange (take_end len.1) _ (λ _.
     given_next (Between 0 255) OpInRange (within 0 255 map.0) _ (within-given 0 255 map.0) (λ number h.
     given_next (λ s. IsPiece s len.0) OpInRange (piece_of off.0 len.0) _ (piece-given off.0 len.0) (λ start piece. (omega (arith, h.1), piece)))))))
 
 store-given : (text : List ℕ) → Given OpInRange (store_of text)
 unfolding store_of
 store-given text =
-    given_any OpInRange (number_at text) _ (λ map. given_any OpInRange (number_at map.1) _ (λ off. given_any OpInRange (bytes_at off.1) _ (λ bytes. given_any OpInRange (end_at bytes.1) _ (λ _.
+    given_any OpInRange (take_number text) _ (λ map. given_any OpInRange (take_number map.1) _ (λ off. given_any OpInRange (take_bytes off.1) _ (λ bytes. given_any OpInRange (take_end bytes.1) _ (λ _.
     given_next (Between 0 255) OpInRange (within 0 255 map.0) _ (within-given 0 255 map.0) (λ number h.
     given_next (λ s. IsPiece s (length bytes.0)) OpInRange (piece_of off.0 (length bytes.0)) _ (piece-given off.0 (length bytes.0)) (λ start piece. (omega (arith, h.1), piece)))))))
 
 abbrev IsMappingPage : ℕ × ℕ → Type 0
 IsMappingPage at = (at.0 < 256) × (at.1 < 1024)
 
-page-given : (text : List ℕ) → Given IsMappingPage (page_of text)
-unfolding page_of
+page-given : (text : List ℕ) → Given IsMappingPage (mapping_page_of text)
+unfolding mapping_page_of
 page-given text =
-    given_any IsMappingPage (number_at text) _ (λ map. given_any IsMappingPage (number_at map.1) _ (λ page. given_any IsMappingPage (end_at page.1) _ (λ _.
+    given_any IsMappingPage (take_number text) _ (λ map. given_any IsMappingPage (take_number map.1) _ (λ page. given_any IsMappingPage (take_end page.1) _ (λ _.
     given_next (Between 0 255) IsMappingPage (within 0 255 map.0) _ (within-given 0 255 map.0) (λ number m.
     given_next (Between 0 1023) IsMappingPage (within 0 1023 page.0) _ (within-given 0 1023 page.0) (λ index p. (omega (arith, m.1), omega (arith, p.1)))))))
 
 pin-given : (text : List ℕ) → Given OpInRange (pin_of text)
 unfolding pin_of
-pin-given text = given_next IsMappingPage OpInRange (page_of text) _ (page-given text) (λ at h. h)
+pin-given text = given_next IsMappingPage OpInRange (mapping_page_of text) _ (page-given text) (λ at h. h)
 
 unpin-given : (text : List ℕ) → Given OpInRange (unpin_of text)
 unfolding unpin_of
-unpin-given text = given_next IsMappingPage OpInRange (page_of text) _ (page-given text) (λ at h. h)
+unpin-given text = given_next IsMappingPage OpInRange (mapping_page_of text) _ (page-given text) (λ at h. h)
 
 pub op-given : (text : List ℕ) → Given OpInRange (op_of text)
 unfolding op_named
 op-given text =
-    let name = first_word text in
+    let name = leading_word text in
     let rest = after_word text in
     given_if OpInRange (bytes_eq name (codes "read")) _ _ (read-given rest) (
     given_if OpInRange (bytes_eq name (codes "write")) _ _ (write-given rest) (
@@ -145,7 +149,8 @@ unfolding processor_of
 processor-given guests text =
     given_any (HasCpu guests) (pair_of text) _ (λ pair. given_any (HasCpu guests) (within 0 15 pair.0) _ (λ guest.
     given_then (HasCpu guests) (ok_or (slice_get guests guest) Range) _ (λ plan there. given_any (HasCpu guests) (within 0 7 pair.1) _ (λ number.
-    given_next (λ n. n < length plan.cpus) (HasCpu guests) (existing (length plan.cpus) number) _ (existing-given (length plan.cpus) number) (λ cpu lt. (plan, ok_or-Some (slice_get guests guest) Range plan there, lt))))))
+    given_next (λ n. n < length plan.cpus) (HasCpu guests) (existing (length plan.cpus) number) _ (existing-given (length plan.cpus) number)
+    (λ cpu lt. (plan, ok_or-Some (slice_get guests guest) Range plan there, lt))))))
 
 abbrev HasPage : List GuestPlan → ℕ × ℕ → Type 0
 HasPage guests at = GuestHas guests at.0 (λ plan. at.1 < plan.pages)
@@ -155,7 +160,8 @@ unfolding guest_page_of
 guest_page-given guests text =
     given_any (HasPage guests) (pair_of text) _ (λ pair. given_any (HasPage guests) (within 0 15 pair.0) _ (λ guest.
     given_then (HasPage guests) (ok_or (slice_get guests guest) Range) _ (λ plan there. given_any (HasPage guests) (within 0 4095 pair.1) _ (λ number.
-    given_next (λ n. n < plan.pages) (HasPage guests) (existing plan.pages number) _ (existing-given plan.pages number) (λ page lt. (plan, ok_or-Some (slice_get guests guest) Range plan there, lt))))))
+    given_next (λ n. n < plan.pages) (HasPage guests) (existing plan.pages number) _ (existing-given plan.pages number)
+    (λ page lt. (plan, ok_or-Some (slice_get guests guest) Range plan there, lt))))))
 
 cpu_turn-given : (guests : List GuestPlan) (text : List ℕ) → Given (EventInRange guests) (cpu_turn_of guests text)
 unfolding cpu_turn_of
@@ -165,20 +171,20 @@ alone-given : (guests : List GuestPlan) (text : List ℕ) → Given (EventInRang
 unfolding alone_of
 alone-given guests text = given_next (HasCpu guests) (EventInRange guests) (processor_of guests text) _ (processor-given guests text) (λ at h. h)
 
-move-given : (action : Move) (guests : List GuestPlan) (text : List ℕ) → Given (EventInRange guests) (move_of action guests text)
-unfolding move_of
+move-given : (action : Move) (guests : List GuestPlan) (text : List ℕ) → Given (EventInRange guests) (host_move_of action guests text)
+unfolding host_move_of
 move-given action guests text = given_next (HasPage guests) (EventInRange guests) (guest_page_of guests text) _ (guest_page-given guests text) (λ at h. h)
 
-reclaim-given : (guests : List GuestPlan) (text : List ℕ) → Given (EventInRange guests) (reclaim_of text)
-unfolding reclaim_of
+reclaim-given : (guests : List GuestPlan) (text : List ℕ) → Given (EventInRange guests) (reclaiming_of text)
+unfolding reclaiming_of
 reclaim-given guests text =
-    given_any (EventInRange guests) (number_at text) _ (λ number. given_any (EventInRange guests) (end_at number.1) _ (λ _.
+    given_any (EventInRange guests) (take_number text) _ (λ number. given_any (EventInRange guests) (take_end number.1) _ (λ _.
     given_next (Between 1 65536) (EventInRange guests) (within 1 65536 number.0) _ (within-given 1 65536 number.0) (λ count h. h)))
 
 pub event-given : (guests : List GuestPlan) (text : List ℕ) → Given (EventInRange guests) (event_of guests text)
 unfolding event_named
 event-given guests text =
-    let name = first_word text in
+    let name = leading_word text in
     let rest = after_word text in
     given_if (EventInRange guests) (bytes_eq name (codes "cpu")) _ _ (cpu_turn-given guests rest) (
     given_if (EventInRange guests) (bytes_eq name (codes "alone")) _ _ (alone-given guests rest) (

@@ -18,10 +18,12 @@ pub is_lent-is_among : (names : List (Bor (List ℕ))) (name : List ℕ) → is_
 is_lent-is_among [] name = refl
 is_lent-is_among (n ∷ names) name = ap (λ (b : Bool). bytes_eq name n.now || b) (is_lent-is_among names name)
 
-pub keys-all_among : (names : List (Bor (List ℕ))) (entries : List (String Global × Value)) → list_all (λ key. is_lent names (string_bytes key)) (keys_of entries) ≡ all_among (texts names) (members_view entries)
+pub keys-all_among : (names : List (Bor (List ℕ))) (entries : List (String Global × Value))
+    → list_all (λ key. is_lent names (string_bytes key)) (keys_of entries) ≡ all_among (texts names) (members_view entries)
 keys-all_among names [] = refl
 keys-all_among names (e ∷ entries) = rw (is_lent-is_among names (string_bytes e.0), keys-all_among names entries) refl
 
-pub known_keys_given : (names : List (List ℕ)) (tree : Data) (members : Members) (known : Bool) → Some members ≡ as_object tree → all_among names members ≡ known → known_keys names tree ≡ checked known tt Unknown
+pub known_keys_given : (names : List (List ℕ)) (tree : Data) (members : Members) (known : Bool) → Some members ≡ as_object tree → all_among names members ≡ known
+    → known_keys names tree ≡ checked known tt Unknown
 unfolding known_keys
 known_keys_given names tree members known object all = rw (← object, all) refl

@@ -7,10 +7,10 @@ use Rattle.serde_json.specs.Data.{Data}
 use Rattle.serde_json.specs.Read.{read}
 use Rattle.cmm_scenario.specs.declared.error.ScenarioError.TheVariants.{NotJson}
 use Rattle.cmm_scenario.specs.Faults.{at_root}
-use Rattle.cmm_scenario.specs.Plans.{plan_of}
+use Rattle.cmm_scenario.specs.Plans.{whole_plan_of}
 use Rattle.cmm_scenario.specs.Scenario.{tree_of, scenario_of_tree, scenario_of}
 
-pub scenario_of-tree : (bytes : List ℕ) (tree : Data) → IsUtf8 bytes → read bytes ≡ Some tree → scenario_of bytes ≡ at_root (plan_of tree)
+pub scenario_of-tree : (bytes : List ℕ) (tree : Data) → IsUtf8 bytes → read bytes ≡ Some tree → scenario_of bytes ≡ at_root (whole_plan_of tree)
 unfolding scenario_of tree_of
 scenario_of-tree bytes tree utf8 e = rw (is_utf8-from_IsUtf8 bytes utf8, e) refl
 

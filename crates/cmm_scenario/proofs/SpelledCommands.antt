@@ -11,8 +11,8 @@ use Rattle.cmm_types.specs.declared.command.Op.TheVariants.{Read, Write, Sync, M
 use Rattle.cmm_types.specs.InRange.{IsPiece, ArePages, OpInRange}
 use Rattle.cmm_scenario.specs.declared.fault.Kind.{Kind}
 use Rattle.cmm_scenario.specs.declared.fault.Kind.TheVariants.{Range}
-use Rattle.cmm_scenario.specs.Words.{end_at}
-use Rattle.cmm_scenario.specs.Commands.{piece_of, read_of, write_of, sync_of, mode_at, mapfile_of, mapanon_of, unmap_of, load_of, store_of, page_of, pin_of, unpin_of, op_named, op_of}
+use Rattle.cmm_scenario.specs.Words.{take_end}
+use Rattle.cmm_scenario.specs.Commands.{piece_of, read_of, write_of, sync_of, take_mode, mapfile_of, mapanon_of, unmap_of, load_of, store_of, mapping_page_of, pin_of, unpin_of, op_named, op_of}
 use Rattle.cmm_scenario.specs.Spelling.{spaced, mode_word, op_text, WritesBytes}
 use Rattle.cmm_scenario.proofs.SpelledWords.{then_ok, no_space, ends_word-spaced, first_word-append, after_word-append, word_at-append, number_at-spaced, bytes_at-spaced, checked-holds, within-is}
 
@@ -26,7 +26,7 @@ piece_of-is off len p =
     (le-leb (off % PAGE + len) PAGE p.within_page)))
 
 read_of-spelled : (file off len : ℕ) → file ≤ 63 → IsPiece off len → read_of (spaced (decimal file ∷ decimal off ∷ decimal len ∷ [])) ≡ Ok (Read file off len)
-unfolding read_of end_at
+unfolding read_of take_end
 read_of-spelled file off len few p =
     then_ok _ _ _ _ (number_at-spaced file (decimal off ∷ decimal len ∷ []) (omega arith))
     (then_ok _ _ _ _ (number_at-spaced off (decimal len ∷ []) (omega (arith, p.start)))
@@ -35,7 +35,7 @@ read_of-spelled file off len few p =
     (then_ok _ _ _ _ (piece_of-is off len p) refl))))
 
 load_of-spelled : (map off len : ℕ) → map ≤ 255 → IsPiece off len → load_of (spaced (decimal map ∷ decimal off ∷ decimal len ∷ [])) ≡ Ok (Load map off len)
-unfolding load_of end_at
+unfolding load_of take_end
 load_of-spelled map off len few p =
     then_ok _ _ _ _ (number_at-spaced map (decimal off ∷ decimal len ∷ []) (omega arith))
     (then_ok _ _ _ _ (number_at-spaced off (decimal len ∷ []) (omega (arith, p.start)))
@@ -43,8 +43,9 @@ load_of-spelled map off len few p =
     (then_ok _ _ _ _ (within-is 0 255 map (omega arith) few)
     (then_ok _ _ _ _ (piece_of-is off len p) refl))))
 
-write_of-spelled : (file off : ℕ) (bytes : List ℕ) → file ≤ 63 → IsPiece off (length bytes) → IsBytes bytes → write_of (spaced (decimal file ∷ decimal off ∷ encode_lower bytes ∷ [])) ≡ Ok (Write file off bytes)
-unfolding write_of end_at
+write_of-spelled : (file off : ℕ) (bytes : List ℕ) → file ≤ 63 → IsPiece off (length bytes) → IsBytes bytes
+    → write_of (spaced (decimal file ∷ decimal off ∷ encode_lower bytes ∷ [])) ≡ Ok (Write file off bytes)
+unfolding write_of take_end
 write_of-spelled file off bytes few p h =
     then_ok _ _ _ _ (number_at-spaced file (decimal off ∷ encode_lower bytes ∷ []) (omega arith))
     (then_ok _ _ _ _ (number_at-spaced off (encode_lower bytes ∷ []) (omega (arith, p.start)))
@@ -52,8 +53,9 @@ write_of-spelled file off bytes few p h =
     (then_ok _ _ _ _ (within-is 0 63 file (omega arith) few)
     (then_ok _ _ _ _ (piece_of-is off (length bytes) p) refl))))
 
-store_of-spelled : (map off : ℕ) (bytes : List ℕ) → map ≤ 255 → IsPiece off (length bytes) → IsBytes bytes → store_of (spaced (decimal map ∷ decimal off ∷ encode_lower bytes ∷ [])) ≡ Ok (Store map off bytes)
-unfolding store_of end_at
+store_of-spelled : (map off : ℕ) (bytes : List ℕ) → map ≤ 255 → IsPiece off (length bytes) → IsBytes bytes
+    → store_of (spaced (decimal map ∷ decimal off ∷ encode_lower bytes ∷ [])) ≡ Ok (Store map off bytes)
+unfolding store_of take_end
 store_of-spelled map off bytes few p h =
     then_ok _ _ _ _ (number_at-spaced map (decimal off ∷ encode_lower bytes ∷ []) (omega arith))
     (then_ok _ _ _ _ (number_at-spaced off (encode_lower bytes ∷ []) (omega (arith, p.start)))
@@ -62,18 +64,19 @@ store_of-spelled map off bytes few p h =
     (then_ok _ _ _ _ (piece_of-is off (length bytes) p) refl))))
 
 sync_of-spelled : (file : ℕ) → file ≤ 63 → sync_of (spaced (decimal file ∷ [])) ≡ Ok (Sync file)
-unfolding sync_of end_at
+unfolding sync_of take_end
 sync_of-spelled file few =
     then_ok _ _ _ _ (number_at-spaced file [] (omega arith))
     (then_ok _ _ _ _ (within-is 0 63 file (omega arith) few) refl)
 
-mode_at-spaced : (writable : Bool) → mode_at (spaced (mode_word writable ∷ [])) ≡ Ok (writable, [])
-unfolding mode_at
+mode_at-spaced : (writable : Bool) → take_mode (spaced (mode_word writable ∷ [])) ≡ Ok (writable, [])
+unfolding take_mode
 mode_at-spaced true = then_ok _ _ _ _ (word_at-append (codes "rw") [] refl refl) refl
 mode_at-spaced false = then_ok _ _ _ _ (word_at-append (codes "ro") [] refl refl) refl
 
-mapfile_of-spelled : (map file first count : ℕ) (writable : Bool) → map ≤ 255 → file ≤ 63 → ArePages first count → mapfile_of (spaced (decimal map ∷ decimal file ∷ decimal first ∷ decimal count ∷ mode_word writable ∷ [])) ≡ Ok (MapFile map file first count writable)
-unfolding mapfile_of end_at
+mapfile_of-spelled : (map file first count : ℕ) (writable : Bool) → map ≤ 255 → file ≤ 63 → ArePages first count
+    → mapfile_of (spaced (decimal map ∷ decimal file ∷ decimal first ∷ decimal count ∷ mode_word writable ∷ [])) ≡ Ok (MapFile map file first count writable)
+unfolding mapfile_of take_end
 mapfile_of-spelled map file first count writable m f p =
     then_ok _ _ _ _ (number_at-spaced map (decimal file ∷ decimal first ∷ decimal count ∷ mode_word writable ∷ []) (omega arith))
     (then_ok _ _ _ _ (number_at-spaced file (decimal first ∷ decimal count ∷ mode_word writable ∷ []) (omega arith))
@@ -86,7 +89,7 @@ mapfile_of-spelled map file first count writable m f p =
     (then_ok _ _ _ _ (within-is 1 1024 count p.some p.most) refl))))))))
 
 mapanon_of-spelled : (map count : ℕ) → map ≤ 255 → ArePages 0 count → mapanon_of (spaced (decimal map ∷ decimal count ∷ [])) ≡ Ok (MapAnon map count)
-unfolding mapanon_of end_at
+unfolding mapanon_of take_end
 mapanon_of-spelled map count m p =
     then_ok _ _ _ _ (number_at-spaced map (decimal count ∷ []) (omega arith))
     (then_ok _ _ _ _ (number_at-spaced count [] (omega (arith, p.most)))
@@ -94,13 +97,13 @@ mapanon_of-spelled map count m p =
     (then_ok _ _ _ _ (within-is 1 1024 count p.some p.most) refl)))
 
 unmap_of-spelled : (map : ℕ) → map ≤ 255 → unmap_of (spaced (decimal map ∷ [])) ≡ Ok (Unmap map)
-unfolding unmap_of end_at
+unfolding unmap_of take_end
 unmap_of-spelled map m =
     then_ok _ _ _ _ (number_at-spaced map [] (omega arith))
     (then_ok _ _ _ _ (within-is 0 255 map (omega arith) m) refl)
 
-page_of-spelled : (map page : ℕ) → map ≤ 255 → page ≤ 1023 → page_of (spaced (decimal map ∷ decimal page ∷ [])) ≡ Ok (map, page)
-unfolding page_of end_at
+page_of-spelled : (map page : ℕ) → map ≤ 255 → page ≤ 1023 → mapping_page_of (spaced (decimal map ∷ decimal page ∷ [])) ≡ Ok (map, page)
+unfolding mapping_page_of take_end
 page_of-spelled map page m p =
     then_ok _ _ _ _ (number_at-spaced map (decimal page ∷ []) (omega arith))
     (then_ok _ _ _ _ (number_at-spaced page [] (omega arith))
@@ -119,7 +122,8 @@ unfolding op_named op_text pin_of unpin_of
 op_of-text (Read file off len) h w = op_of-named (codes "read") (decimal file ∷ decimal off ∷ decimal len ∷ []) _ refl (read_of-spelled file off len (omega (arith, h.0)) h.1)
 op_of-text (Write file off bytes) h w = op_of-named (codes "write") (decimal file ∷ decimal off ∷ encode_lower bytes ∷ []) _ refl (write_of-spelled file off bytes (omega (arith, h.0)) h.1 w)
 op_of-text (Sync file) h w = op_of-named (codes "sync") (decimal file ∷ []) _ refl (sync_of-spelled file (omega (arith, h)))
-op_of-text (MapFile map file first count writable) h w = op_of-named (codes "mapfile") (decimal map ∷ decimal file ∷ decimal first ∷ decimal count ∷ mode_word writable ∷ []) _ refl (mapfile_of-spelled map file first count writable (omega (arith, h.0)) (omega (arith, h.1)) h.2)
+op_of-text (MapFile map file first count writable) h w = op_of-named (codes "mapfile") (decimal map ∷ decimal file ∷ decimal first ∷ decimal count ∷ mode_word writable ∷ []) _ refl
+    (mapfile_of-spelled map file first count writable (omega (arith, h.0)) (omega (arith, h.1)) h.2)
 op_of-text (MapAnon map count) h w = op_of-named (codes "mapanon") (decimal map ∷ decimal count ∷ []) _ refl (mapanon_of-spelled map count (omega (arith, h.0)) h.1)
 op_of-text (Unmap map) h w = op_of-named (codes "unmap") (decimal map ∷ []) _ refl (unmap_of-spelled map (omega (arith, h)))
 op_of-text (Load map off len) h w = op_of-named (codes "load") (decimal map ∷ decimal off ∷ decimal len ∷ []) _ refl (load_of-spelled map off len (omega (arith, h.0)) h.1)

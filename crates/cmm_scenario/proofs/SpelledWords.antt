@@ -15,7 +15,7 @@ use Rattle.hex.specs.Hex.{encode_with, encode_lower, lower_digits, hex_digit_val
 use Rattle.hex.proofs.HexLemmas.{length-encode_with, decode_of-encode_lower, IsDigits-lower_digits}
 use Rattle.cmm_scenario.specs.declared.fault.Kind.TheVariants.{Text, Range}
 use Rattle.cmm_scenario.specs.Outcome.{◌>>=◌, checked}
-use Rattle.cmm_scenario.specs.Words.{is_space, first_word, after_word, word_at, has_number_size, number_of, number_at, or_fault, bytes_of, bytes_at, within}
+use Rattle.cmm_scenario.specs.Words.{is_space, leading_word, after_word, take_word, has_number_size, word_number, take_number, or_fault, word_bytes, take_bytes, within}
 use Rattle.cmm_scenario.specs.Spelling.{spaced}
 use Rattle.cmm_scenario.proofs.Digits.{digit_range}
 
@@ -57,16 +57,16 @@ word_end word rest plain ends =
     let place = space_place word rest plain ends in
     chosen (position_or_len is_space (word ++ rest)) (length (word ++ rest)) (omega (arith, length-append word rest, place)) ∙ place
 
-pub first_word-append : (word rest : List ℕ) → no_space word ≡ true → ends_word rest ≡ true → first_word (word ++ rest) ≡ word
-unfolding first_word
+pub first_word-append : (word rest : List ℕ) → no_space word ≡ true → ends_word rest ≡ true → leading_word (word ++ rest) ≡ word
+unfolding leading_word
 first_word-append word rest plain ends = ap (λ (k : ℕ). take k (word ++ rest)) (word_end word rest plain ends) ∙ take-append_seam word rest
 
 pub after_word-append : (word rest : List ℕ) → no_space word ≡ true → ends_word rest ≡ true → after_word (word ++ rest) ≡ rest
 unfolding after_word
 after_word-append word rest plain ends = ap (λ (k : ℕ). drop k (word ++ rest)) (word_end word rest plain ends) ∙ drop-append_seam word rest
 
-pub word_at-append : (word rest : List ℕ) → no_space word ≡ true → ends_word rest ≡ true → word_at (32 ∷ (word ++ rest)) ≡ Ok (word, rest)
-unfolding word_at
+pub word_at-append : (word rest : List ℕ) → no_space word ≡ true → ends_word rest ≡ true → take_word (32 ∷ (word ++ rest)) ≡ Ok (word, rest)
+unfolding take_word
 word_at-append word rest plain ends =
     let first = first_word-append word rest plain ends in
     let after = after_word-append word rest plain ends in
@@ -92,27 +92,28 @@ sized (d ∷ e ∷ ds) some few first =
 
 decimal_sized : (n : ℕ) → n < 10 ^ 10 → has_number_size (decimal n) ≡ true
 decimal_sized zero small = rw (decimal_digit 0 (omega arith)) refl
-decimal_sized (suc n) small = sized (decimal (suc n)) (decimal_nonempty (suc n) (omega arith)) (length-decimal-le 10 (suc n) (omega arith) small (omega arith)) (first_decimal (suc n) (omega arith) (omega arith))
+decimal_sized (suc n) small = sized (decimal (suc n)) (decimal_nonempty (suc n) (omega arith)) (length-decimal-le 10 (suc n) (omega arith) small (omega arith))
+    (first_decimal (suc n) (omega arith) (omega arith))
 
 decimal_digits : (n : ℕ) → n < 10 ^ 10 → all_ascii_digits (decimal n) ≡ true
 decimal_digits n small = digits_decimal (numerals_by_value _ tells_all_ascii_digits) n (omega arith)
 
-number_of-sized : (ds : List ℕ) → has_number_size ds ≡ true → all_ascii_digits ds ≡ true → number_of ds ≡ Ok (digits_value 10 ds)
-unfolding number_of
+number_of-sized : (ds : List ℕ) → has_number_size ds ≡ true → all_ascii_digits ds ≡ true → word_number ds ≡ Ok (digits_value 10 ds)
+unfolding word_number
 number_of-sized ds size digits = rw (size, digits) refl
 
-pub number_of-decimal : (n : ℕ) → n < 10 ^ 10 → number_of (decimal n) ≡ Ok n
+pub number_of-decimal : (n : ℕ) → n < 10 ^ 10 → word_number (decimal n) ≡ Ok n
 number_of-decimal n small =
     number_of-sized (decimal n) (decimal_sized n small) (decimal_digits n small)
     ∙ ap Ok (digits_value-decimal (numerals_by_value _ tells_all_ascii_digits) n (omega arith))
 
-number_at-append : (word rest : List ℕ) (n : ℕ) → no_space word ≡ true → ends_word rest ≡ true → number_of word ≡ Ok n → number_at (32 ∷ (word ++ rest)) ≡ Ok (n, rest)
-unfolding number_at
+number_at-append : (word rest : List ℕ) (n : ℕ) → no_space word ≡ true → ends_word rest ≡ true → word_number word ≡ Ok n → take_number (32 ∷ (word ++ rest)) ≡ Ok (n, rest)
+unfolding take_number
 number_at-append word rest n plain ends reads =
     then_ok _ _ (word, rest) _ (word_at-append word rest plain ends) (then_ok _ _ n _ reads refl)
 
 -- a number below 10 to the 10th behind a space
-pub number_at-spaced : (n : ℕ) (words : List (List ℕ)) → n < 10 ^ 10 → number_at (spaced (decimal n ∷ words)) ≡ Ok (n, spaced words)
+pub number_at-spaced : (n : ℕ) (words : List (List ℕ)) → n < 10 ^ 10 → take_number (spaced (decimal n ∷ words)) ≡ Ok (n, spaced words)
 number_at-spaced n words small = number_at-append (decimal n) (spaced words) n (no_space-digits (decimal n) (decimal_digits n small)) (ends_word-spaced words) (number_of-decimal n small)
 
 -- ---- bytes
@@ -133,25 +134,25 @@ no_space-encoded (b ∷ bytes) h =
     let later = no_space-encoded bytes (λ k. h (suc k)) in
     rw (high, low, later) refl
 
-bytes_of-decodes : (digits bytes : List ℕ) → 1 ≤ length digits → length digits ≤ 128 → decode_of digits ≡ Ok bytes → bytes_of digits ≡ Ok bytes
-unfolding bytes_of
+bytes_of-decodes : (digits bytes : List ℕ) → 1 ≤ length digits → length digits ≤ 128 → decode_of digits ≡ Ok bytes → word_bytes digits ≡ Ok bytes
+unfolding word_bytes
 bytes_of-decodes digits bytes some few decodes =
     let least = le-leb 1 (length digits) some in
     let most = le-leb (length digits) 128 few in
     rw (least, most) (ap (or_fault Text) decodes)
 
-pub bytes_of-encoded : (bytes : List ℕ) → 1 ≤ length bytes → length bytes ≤ 64 → IsBytes bytes → bytes_of (encode_lower bytes) ≡ Ok bytes
+pub bytes_of-encoded : (bytes : List ℕ) → 1 ≤ length bytes → length bytes ≤ 64 → IsBytes bytes → word_bytes (encode_lower bytes) ≡ Ok bytes
 bytes_of-encoded bytes some few h =
     let twice : length (encode_lower bytes) ≡ 2 * length bytes = length-encode_with lower_digits bytes in
     bytes_of-decodes (encode_lower bytes) bytes (omega arith) (omega arith) (decode_of-encode_lower bytes h)
 
-bytes_at-append : (word rest bytes : List ℕ) → no_space word ≡ true → ends_word rest ≡ true → bytes_of word ≡ Ok bytes → bytes_at (32 ∷ (word ++ rest)) ≡ Ok (bytes, rest)
-unfolding bytes_at
+bytes_at-append : (word rest bytes : List ℕ) → no_space word ≡ true → ends_word rest ≡ true → word_bytes word ≡ Ok bytes → take_bytes (32 ∷ (word ++ rest)) ≡ Ok (bytes, rest)
+unfolding take_bytes
 bytes_at-append word rest bytes plain ends reads =
     then_ok _ _ (word, rest) _ (word_at-append word rest plain ends) (then_ok _ _ bytes _ reads refl)
 
 -- 1 to 64 bytes behind a space
-pub bytes_at-spaced : (bytes : List ℕ) (words : List (List ℕ)) → 1 ≤ length bytes → length bytes ≤ 64 → IsBytes bytes → bytes_at (spaced (encode_lower bytes ∷ words)) ≡ Ok (bytes, spaced words)
+pub bytes_at-spaced : (bytes : List ℕ) (words : List (List ℕ)) → 1 ≤ length bytes → length bytes ≤ 64 → IsBytes bytes → take_bytes (spaced (encode_lower bytes ∷ words)) ≡ Ok (bytes, spaced words)
 bytes_at-spaced bytes words some few h = bytes_at-append (encode_lower bytes) (spaced words) bytes (no_space-encoded bytes h) (ends_word-spaced words) (bytes_of-encoded bytes some few h)
 
 -- ---- ranges

@@ -35,12 +35,14 @@ first_of_rest : (list : List Value) (place : ℕ) (v : Value) → place < length
 first_of_rest list place v lt is = drop-cons list place v lt ∙ ap (λ (w : Value). w ∷ drop (suc place) list) (sym is)
 
 -- one more item was read
-pub item_read : {A : Type 0} (read : Data → Result A ScenarioError) (list : List Value) (place : ℕ) (front : List A) (v : Value) (x : A) → place < length list → v ≡ get_or list place v → read (view v) ≡ Ok x → with_front front (each_from place read (map view (drop place list))) ≡ with_front (front ++ x ∷ []) (each_from (place + 1) read (map view (drop (place + 1) list)))
+pub item_read : {A : Type 0} (read : Data → Result A ScenarioError) (list : List Value) (place : ℕ) (front : List A) (v : Value) (x : A) → place < length list → v ≡ get_or list place v
+    → read (view v) ≡ Ok x → with_front front (each_from place read (map view (drop place list))) ≡ with_front (front ++ x ∷ []) (each_from (place + 1) read (map view (drop (place + 1) list)))
 unfolding each_from
 item_read read list place front v x lt is e = rw (add-one, first_of_rest list place v lt is, e) (regroup front x (each_from (suc place) read (map view (drop (suc place) list))))
 
 -- no item is left
-pub items_read : {A : Type 0} (read : Data → Result A ScenarioError) (list : List Value) (place : ℕ) (front : List A) (whole : Result (List A) ScenarioError) → length list ≤ place → with_front front (each_from place read (map view (drop place list))) ≡ whole → whole ≡ Ok front
+pub items_read : {A : Type 0} (read : Data → Result A ScenarioError) (list : List Value) (place : ℕ) (front : List A) (whole : Result (List A) ScenarioError) → length list ≤ place
+    → with_front front (each_from place read (map view (drop place list))) ≡ whole → whole ≡ Ok front
 unfolding each_from
 items_read {A} read list place front whole past e =
     let none : drop place list ≡ [] = drop_all place list past in
@@ -54,7 +56,9 @@ no_memory_given (Err (Fault path kind)) whole h = absurd cc
 no_memory_given (Err NoMemory) whole h = tt
 
 -- an item was not read
-pub item_fault_given : {A : Type 0} (result : Result (List A) ScenarioError) (read : Data → Result A ScenarioError) (list : List Value) (place : ℕ) (front : List A) (v : Value) (e : ScenarioError) (whole : Result (List A) ScenarioError) → place < length list → v ≡ get_or list place v → Fails e (read (view v)) → Gives result (Err (error_inside (decimal place) e)) → with_front front (each_from place read (map view (drop place list))) ≡ whole → Gives result whole
+pub item_fault_given : {A : Type 0} (result : Result (List A) ScenarioError) (read : Data → Result A ScenarioError) (list : List Value) (place : ℕ) (front : List A) (v : Value)
+    (e : ScenarioError) (whole : Result (List A) ScenarioError) → place < length list → v ≡ get_or list place v → Fails e (read (view v)) → Gives result (Err (error_inside (decimal place) e))
+    → with_front front (each_from place read (map view (drop place list))) ≡ whole → Gives result whole
 unfolding each_from
 item_fault_given {A} result read list place front v NotJson whole lt is fails given e =
     let fault : with_front front (each_from place read (map view (drop place list))) ≡ Err NotJson = rw (first_of_rest list place v lt is, fails) refl in

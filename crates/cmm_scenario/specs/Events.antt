@@ -4,13 +4,14 @@ use Rattle.std.specs.Str.{bytes_eq}
 use Rattle.std.specs.Option.{ok_or}
 use Rattle.cmm_types.specs.declared.page.Move.{Move}
 use Rattle.cmm_types.specs.declared.page.Move.TheVariants.{Discard, Preserve, Bring, Age}
+use Rattle.cmm_types.specs.declared.event.TheConstants.{MAX_RECLAIM}
 use Rattle.cmm_types.specs.declared.event.Event.{Event}
 use Rattle.cmm_types.specs.declared.event.Event.TheVariants.{Cpu, Alone, Host, Reclaim}
 use Rattle.cmm_types.specs.declared.plan.GuestPlan.{GuestPlan}
 use Rattle.cmm_scenario.specs.declared.fault.Kind.{Kind}
 use Rattle.cmm_scenario.specs.declared.fault.Kind.TheVariants.{Text, Range}
 use Rattle.cmm_scenario.specs.Outcome.{◌>>=◌, checked}
-use Rattle.cmm_scenario.specs.Words.{first_word, after_word, number_at, end_at, within}
+use Rattle.cmm_scenario.specs.Words.{leading_word, after_word, take_number, take_end, within}
 
 -- a place in a list or in memory that has so many
 unfoldable pub existing : ℕ → ℕ → Result ℕ Kind
@@ -19,9 +20,9 @@ existing limit number = checked (nat_lt number limit) number Range
 -- two numbers, and nothing after them
 unfoldable pub pair_of : List ℕ → Result (ℕ × ℕ) Kind
 pair_of text = do
-  first ← number_at text
-  second ← number_at first.1
-  _ ← end_at second.1
+  first ← take_number text
+  second ← take_number first.1
+  _ ← take_end second.1
   Ok (first.0, second.0)
 
 -- a guest, and one of its processors
@@ -54,16 +55,16 @@ alone_of guests text = do
   at ← processor_of guests text
   Ok (Alone at.0 at.1)
 
-unfoldable pub move_of : Move → List GuestPlan → List ℕ → Result Event Kind
-move_of action guests text = do
+unfoldable pub host_move_of : Move → List GuestPlan → List ℕ → Result Event Kind
+host_move_of action guests text = do
   at ← guest_page_of guests text
   Ok (Host at.0 at.1 action)
 
-unfoldable pub reclaim_of : List ℕ → Result Event Kind
-reclaim_of text = do
-  number ← number_at text
-  _ ← end_at number.1
-  count ← within 1 65536 number.0
+unfoldable pub reclaiming_of : List ℕ → Result Event Kind
+reclaiming_of text = do
+  number ← take_number text
+  _ ← take_end number.1
+  count ← within 1 MAX_RECLAIM number.0
   Ok (Reclaim count)
 
 -- the event of a name, and of the text after it
@@ -71,13 +72,13 @@ unfoldable pub event_named : List GuestPlan → List ℕ → List ℕ → Result
 event_named guests name text =
     if bytes_eq name (codes "cpu") then cpu_turn_of guests text
     else if bytes_eq name (codes "alone") then alone_of guests text
-    else if bytes_eq name (codes "discard") then move_of Discard guests text
-    else if bytes_eq name (codes "preserve") then move_of Preserve guests text
-    else if bytes_eq name (codes "bring") then move_of Bring guests text
-    else if bytes_eq name (codes "age") then move_of Age guests text
-    else if bytes_eq name (codes "reclaim") then reclaim_of text
+    else if bytes_eq name (codes "discard") then host_move_of Discard guests text
+    else if bytes_eq name (codes "preserve") then host_move_of Preserve guests text
+    else if bytes_eq name (codes "bring") then host_move_of Bring guests text
+    else if bytes_eq name (codes "age") then host_move_of Age guests text
+    else if bytes_eq name (codes "reclaim") then reclaiming_of text
     else Err Text
 
 -- the event that a text spells, in a scenario of these guests
 abbrev pub event_of : List GuestPlan → List ℕ → Result Event Kind
-event_of guests text = event_named guests (first_word text) (after_word text)
+event_of guests text = event_named guests (leading_word text) (after_word text)

@@ -12,6 +12,6 @@ abbrev pub checked : {A E : Type 0} → Bool → A → E → Result A E
 checked holds x fault = if holds then Ok x else Err fault
 
 -- a result, its value seen in another way, is this one
-abbrev pub Shows : {X Y E : Type 0} → (X → Y) → Result X E → Result Y E → Type 0
-Shows view (Ok x) read = read ≡ Ok (view x)
-Shows view (Err e) read = read ≡ Err e
+abbrev pub ReadsAs : {X Y E : Type 0} → (X → Y) → Result X E → Result Y E → Type 0
+ReadsAs view (Ok x) read = read ≡ Ok (view x)
+ReadsAs view (Err e) read = read ≡ Err e

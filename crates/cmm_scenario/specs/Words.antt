@@ -12,16 +12,16 @@ abbrev pub is_space : ℕ → Bool
 is_space c = c == 32
 
 -- the text up to its first space, and the text from there on
-unfoldable pub first_word : List ℕ → List ℕ
-first_word text = take (unwrap_or (position is_space text) (length text)) text
+unfoldable pub leading_word : List ℕ → List ℕ
+leading_word text = take (unwrap_or (position is_space text) (length text)) text
 
 unfoldable pub after_word : List ℕ → List ℕ
 after_word text = drop (unwrap_or (position is_space text) (length text)) text
 
 -- The word behind a space, and the text after it. What stands after a word is empty or begins with a space.
-unfoldable pub word_at : List ℕ → Result (List ℕ × List ℕ) Kind
-word_at [] = Err Text
-word_at (space ∷ text) = if is_space space then Ok (first_word text, after_word text) else Err Text
+unfoldable pub take_word : List ℕ → Result (List ℕ × List ℕ) Kind
+take_word [] = Err Text
+take_word (space ∷ text) = if is_space space then Ok (leading_word text, after_word text) else Err Text
 
 -- one to ten bytes, of which the first is a 0 only where it is the only one
 abbrev pub has_number_size : List ℕ → Bool
@@ -30,14 +30,14 @@ has_number_size (digit ∷ []) = true
 has_number_size (first ∷ digit ∷ digits) = not (first == 48) && nat_le (length (digit ∷ digits)) 9
 
 -- `0`, or at most ten digits without a leading 0
-unfoldable pub number_of : List ℕ → Result ℕ Kind
-number_of word = if has_number_size word then (if all_ascii_digits word then Ok (digits_value 10 word) else Err Text) else Err Text
+unfoldable pub word_number : List ℕ → Result ℕ Kind
+word_number word = if has_number_size word then (if all_ascii_digits word then Ok (digits_value 10 word) else Err Text) else Err Text
 
 -- a number, and the text after it
-unfoldable pub number_at : List ℕ → Result (ℕ × List ℕ) Kind
-number_at text = do
-  word ← word_at text
-  number ← number_of word.0
+unfoldable pub take_number : List ℕ → Result (ℕ × List ℕ) Kind
+take_number text = do
+  word ← take_word text
+  number ← word_number word.0
   Ok (number, word.1)
 
 abbrev pub or_fault : {A : Type 0} → Kind → Result A FromHexError → Result A Kind
@@ -45,20 +45,20 @@ or_fault fault (Ok x) = Ok x
 or_fault fault (Err e) = Err fault
 
 -- 2 to 128 hexadecimal digits of either case, an even number
-unfoldable pub bytes_of : List ℕ → Result (List ℕ) Kind
-bytes_of digits = if nat_le 1 (length digits) && nat_le (length digits) 128 then or_fault Text (decode_of digits) else Err Text
+unfoldable pub word_bytes : List ℕ → Result (List ℕ) Kind
+word_bytes digits = if nat_le 1 (length digits) && nat_le (length digits) 128 then or_fault Text (decode_of digits) else Err Text
 
 -- bytes, and the text after them
-unfoldable pub bytes_at : List ℕ → Result (List ℕ × List ℕ) Kind
-bytes_at text = do
-  word ← word_at text
-  bytes ← bytes_of word.0
+unfoldable pub take_bytes : List ℕ → Result (List ℕ × List ℕ) Kind
+take_bytes text = do
+  word ← take_word text
+  bytes ← word_bytes word.0
   Ok (bytes, word.1)
 
 -- the text ends here
-unfoldable pub end_at : List ℕ → Result (Unit {0}) Kind
-end_at [] = Ok tt
-end_at (c ∷ text) = Err Text
+unfoldable pub take_end : List ℕ → Result (Unit {0}) Kind
+take_end [] = Ok tt
+take_end (c ∷ text) = Err Text
 
 -- a number that lies in its range, both ends included
 unfoldable pub within : ℕ → ℕ → ℕ → Result ℕ Kind

@@ -1,6 +1,6 @@
 ghost use Rattle.std.specs.Prelude.{◌≡◌, ◌≤◌, OnOk};
-ghost use Rattle.cmm_scenario.specs.Outcome.{Shows};
-ghost use Rattle.cmm_scenario.specs.Commands.{piece_of, read_of, write_of, sync_of, mode_at, mapfile_of, mapanon_of, unmap_of, load_of, store_of, page_of, pin_of, unpin_of, op_named, op_of};
+ghost use Rattle.cmm_scenario.specs.Outcome.{ReadsAs};
+ghost use Rattle.cmm_scenario.specs.Commands.{piece_of, read_of, write_of, sync_of, take_mode, mapfile_of, mapanon_of, unmap_of, load_of, store_of, mapping_page_of, pin_of, unpin_of, op_named, op_of};
 
 use crate::fault::Kind;
 use crate::words::{end_of_text, next_bytes, next_number, next_word, split_word, within};
@@ -12,7 +12,7 @@ use cmm_types::{
 #[tactic(auto, unfolding(crate::specs::Commands::piece_of))]
 fn piece(off: u64, len: u64) -> Result<u32, Kind>
     ensures start { result ≡ piece_of off len }
-    ensures few { OnOk result (len ≤ 64) }
+    ensures few { OnOk result (len ≤ MAX_BYTES) }
 {
     let start = within(0, MAX_OFFSETS - 1, off)?;
     if len < 1 || len > MAX_BYTES as u64 {
@@ -66,9 +66,9 @@ fn sync(text: &[u8]) -> Result<Op, Kind>
 }
 
 /// Whether a mapping is writable.
-#[tactic(auto, unfolding(crate::specs::Commands::mode_at))]
+#[tactic(auto, unfolding(crate::specs::Commands::take_mode))]
 fn mode(text: &[u8]) -> Result<(bool, &[u8]), Kind>
-    ensures { Shows (λ x. (x.0, x.1.now)) result (mode_at text.now) }
+    ensures { ReadsAs (λ x. (x.0, x.1.now)) result (take_mode text.now) }
 {
     let (word, rest) = next_word(text)?;
     match word {
@@ -154,9 +154,9 @@ fn store(text: &[u8]) -> Result<Op, Kind>
 }
 
 /// The number of a mapping, and a page's index in it.
-#[tactic(auto, unfolding(crate::specs::Commands::page_of))]
+#[tactic(auto, unfolding(crate::specs::Commands::mapping_page_of))]
 fn mapping_page(text: &[u8]) -> Result<(u32, u32), Kind>
-    ensures { result ≡ page_of text.now }
+    ensures { result ≡ mapping_page_of text.now }
 {
     let (map, rest) = next_number(text)?;
     let (page, rest) = next_number(rest)?;

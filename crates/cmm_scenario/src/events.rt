@@ -1,5 +1,5 @@
 ghost use Rattle.std.specs.Prelude.{◌≡◌};
-ghost use Rattle.cmm_scenario.specs.Events.{existing, pair_of, processor_of, guest_page_of, cpu_turn_of, alone_of, move_of, reclaim_of, event_named, event_of};
+ghost use Rattle.cmm_scenario.specs.Events.{existing, pair_of, processor_of, guest_page_of, cpu_turn_of, alone_of, host_move_of, reclaiming_of, event_named, event_of};
 
 use crate::fault::Kind;
 use crate::words::{end_of_text, next_number, split_word, within};
@@ -73,9 +73,9 @@ fn alone(guests: &[GuestPlan], text: &[u8]) -> Result<Event, Kind>
     Ok(Event::Alone { guest, cpu })
 }
 
-#[tactic(auto, unfolding(crate::specs::Events::move_of))]
+#[tactic(auto, unfolding(crate::specs::Events::host_move_of))]
 fn host_move(action: Move, guests: &[GuestPlan], text: &[u8]) -> Result<Event, Kind>
-    ensures { result ≡ move_of action guests.now text.now }
+    ensures { result ≡ host_move_of action guests.now text.now }
 {
     let (guest, page) = guest_page(guests, text)?;
     Ok(Event::Host {
@@ -85,9 +85,9 @@ fn host_move(action: Move, guests: &[GuestPlan], text: &[u8]) -> Result<Event, K
     })
 }
 
-#[tactic(auto, unfolding(crate::specs::Events::reclaim_of))]
+#[tactic(auto, unfolding(crate::specs::Events::reclaiming_of))]
 fn reclaim(text: &[u8]) -> Result<Event, Kind>
-    ensures { result ≡ reclaim_of text.now }
+    ensures { result ≡ reclaiming_of text.now }
 {
     let (count, rest) = next_number(text)?;
     end_of_text(rest)?;

@@ -1,7 +1,7 @@
 ghost use Rattle.std.specs.Prelude.{◌≡◌};
 ghost use Rattle.serde_json.specs.View.{view};
 ghost use Rattle.cmm_scenario.specs.Faults.{Gives, here};
-ghost use Rattle.cmm_scenario.specs.Plans.{head_of, command_of, file_of, cpu_of, guest_of};
+ghost use Rattle.cmm_scenario.specs.Plans.{head_of, cpu_command_of, file_of, cpu_plan_of, guest_of};
 
 use crate::commands::command;
 use crate::error::{ScenarioError, here};
@@ -59,9 +59,9 @@ impl Reader for File {
     }
 }
 
-#[tactic(auto, unfolding(crate::specs::Plans::command_of))]
-fn command_of(value: &Value) -> Result<Op, Kind>
-    ensures { result ≡ command_of (view value.now) }
+#[tactic(auto, unfolding(crate::specs::Plans::cpu_command_of))]
+fn cpu_command_of(value: &Value) -> Result<Op, Kind>
+    ensures { result ≡ cpu_command_of (view value.now) }
 {
     let text = value.as_str().ok_or(Kind::Type_)?;
     command(text.as_bytes())
@@ -73,10 +73,10 @@ struct Command;
 impl Reader for Command {
     type Item = Op;
 
-    ghost reads = { λ _ tree. here (command_of tree) };
+    ghost reads = { λ _ tree. here (cpu_command_of tree) };
 
     fn read(&self, alloc: Global, value: &Value) -> Result<Op, ScenarioError> {
-        here(alloc, command_of(value))
+        here(alloc, cpu_command_of(value))
     }
 }
 
@@ -86,9 +86,9 @@ struct Cpu;
 impl Reader for Cpu {
     type Item = CpuPlan;
 
-    ghost reads = { λ _ tree. cpu_of tree };
+    ghost reads = { λ _ tree. cpu_plan_of tree };
 
-    #[tactic(auto, unfolding(crate::specs::Plans::cpu_of))]
+    #[tactic(auto, unfolding(crate::specs::Plans::cpu_plan_of))]
     fn read(&self, alloc: Global, value: &Value) -> Result<CpuPlan, ScenarioError> {
         here(alloc, known_keys(value, &["process", "commands"]))?;
         let process = member(alloc, value, "process", &Number::new(0, MAX_PROCESSES - 1))?;

@@ -3,6 +3,7 @@
 ghost use Rattle.std.specs.Prelude.{◌≡◌, ◌<◌, ◌≤◌, ◌^◌, ℕ, List, [], ◌∷◌, length, codes, true, false, Ok};
 ghost use Rattle.std.specs.Fmt.{decimal};
 ghost use Rattle.hex.specs.Hex.{encode_lower, IsBytes};
+ghost use Rattle.cmm_types.specs.declared.bytes.TheConstants.{MAX_BYTES};
 ghost use Rattle.cmm_types.specs.declared.command.Op.{Op};
 ghost use Rattle.cmm_types.specs.declared.command.Op.TheVariants.{Read, Write, MapFile, Store, Unpin};
 ghost use Rattle.cmm_types.specs.declared.event.Event.{Event};
@@ -10,21 +11,21 @@ ghost use Rattle.cmm_types.specs.declared.event.Event.TheVariants.{Alone, Host, 
 ghost use Rattle.cmm_types.specs.declared.page.Move.TheVariants.{Discard};
 ghost use Rattle.cmm_types.specs.declared.plan.GuestPlan.{GuestPlan};
 ghost use Rattle.cmm_types.specs.InRange.{OpInRange, GuestsInRange, EventInRange};
-ghost use Rattle.cmm_scenario.specs.Words.{number_of, number_at, bytes_of, bytes_at};
+ghost use Rattle.cmm_scenario.specs.Words.{word_number, take_number, word_bytes, take_bytes};
 ghost use Rattle.cmm_scenario.specs.Commands.{op_of};
 ghost use Rattle.cmm_scenario.specs.Events.{event_of};
 ghost use Rattle.cmm_scenario.specs.Spelling.{spaced, op_text, WritesBytes, event_text};
 
 /// A number of at most ten digits reads back, alone and behind a space.
 pub fn numbers_read_back()
-    ensures alone { (n : ℕ) → n < 10 ^ 10 → number_of (decimal n) ≡ Ok n }
-    ensures spaced { (n : ℕ) (words : List (List ℕ)) → n < 10 ^ 10 → number_at (spaced (decimal n ∷ words)) ≡ Ok (n, spaced words) }
+    ensures alone { (n : ℕ) → n < 10 ^ 10 → word_number (decimal n) ≡ Ok n }
+    ensures spaced { (n : ℕ) (words : List (List ℕ)) → n < 10 ^ 10 → take_number (spaced (decimal n ∷ words)) ≡ Ok (n, spaced words) }
 {}
 
 /// One to 64 bytes read back, alone and behind a space.
 pub fn bytes_read_back()
-    ensures alone { (bytes : List ℕ) → 1 ≤ length bytes → length bytes ≤ 64 → IsBytes bytes → bytes_of (encode_lower bytes) ≡ Ok bytes }
-    ensures spaced { (bytes : List ℕ) (words : List (List ℕ)) → 1 ≤ length bytes → length bytes ≤ 64 → IsBytes bytes → bytes_at (spaced (encode_lower bytes ∷ words)) ≡ Ok (bytes, spaced words) }
+    ensures alone { (bytes : List ℕ) → 1 ≤ length bytes → length bytes ≤ MAX_BYTES → IsBytes bytes → word_bytes (encode_lower bytes) ≡ Ok bytes }
+    ensures spaced { (bytes : List ℕ) (words : List (List ℕ)) → 1 ≤ length bytes → length bytes ≤ MAX_BYTES → IsBytes bytes → take_bytes (spaced (encode_lower bytes ∷ words)) ≡ Ok (bytes, spaced words) }
 {}
 
 /// A command that is in range reads back.

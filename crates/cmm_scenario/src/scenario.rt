@@ -1,9 +1,9 @@
-ghost use Rattle.std.specs.Prelude.{◌≡◌, ◌-◌, ◌≤◌, nat_le, sum_by, IfOk};
+ghost use Rattle.std.specs.Prelude.{◌≡◌, ◌-◌, ◌≤◌, nat_le, IfOk};
 ghost use Rattle.std.specs.Option.{SomeIff};
 ghost use Rattle.serde_json.specs.View.{view};
-ghost use Rattle.cmm_types.specs.InRange.{ScenarioInRange, blocks_of};
+ghost use Rattle.cmm_types.specs.InRange.{ScenarioInRange, blocks_of, guest_pages_of, guest_blocks_of};
 ghost use Rattle.cmm_scenario.specs.Faults.{Gives, here};
-ghost use Rattle.cmm_scenario.specs.Plans.{totals_of, guests_of, schedule_event_of, schedule_of, plan_of};
+ghost use Rattle.cmm_scenario.specs.Plans.{totals_of, guests_of, schedule_event_of, schedule_of, whole_plan_of};
 ghost use Rattle.cmm_scenario.specs.Scenario.{scenario_of};
 
 use crate::error::{ScenarioError, at_root, here, inside};
@@ -36,9 +36,9 @@ pub fn read_scenario(alloc: Global, bytes: &[u8]) -> Result<Scenario, ScenarioEr
     }
 }
 
-#[tactic(auto, unfolding(crate::specs::Plans::plan_of, crate::specs::Tree::known_keys))]
+#[tactic(auto, unfolding(crate::specs::Plans::whole_plan_of, crate::specs::Tree::known_keys))]
 fn plan(alloc: Global, value: &Value) -> Result<Scenario, ScenarioError>
-    ensures { Gives result (plan_of (view value.now)) }
+    ensures { Gives result (whole_plan_of (view value.now)) }
 {
     let keys = [
         "version",
@@ -104,7 +104,7 @@ fn totals(guests: &[GuestPlan]) -> Result<(), Kind>
 }
 
 fn pages_fit(guests: &[GuestPlan]) -> bool
-    ensures { result ≡ nat_le (sum_by (λ guest. guest.pages) guests.now) 65536 }
+    ensures { result ≡ nat_le (guest_pages_of guests.now) MAX_TOTAL_PAGES }
 {
     let mut left = MAX_TOTAL_PAGES;
     for guest in guests {
@@ -117,7 +117,7 @@ fn pages_fit(guests: &[GuestPlan]) -> bool
 }
 
 fn blocks_fit(guests: &[GuestPlan]) -> bool
-    ensures { result ≡ nat_le (sum_by blocks_of guests.now) 65536 }
+    ensures { result ≡ nat_le (guest_blocks_of guests.now) MAX_TOTAL_BLOCKS }
 {
     let mut left = MAX_TOTAL_BLOCKS;
     for guest in guests {

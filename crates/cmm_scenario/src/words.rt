@@ -1,6 +1,6 @@
 ghost use Rattle.std.specs.Prelude.{◌≡◌, ◌+◌, ◌^◌, ◌<◌, ◌≤◌, length, position, IfOk};
-ghost use Rattle.cmm_scenario.specs.Outcome.{Shows};
-ghost use Rattle.cmm_scenario.specs.Words.{is_space, first_word, after_word, word_at, number_at, number_of, has_number_size, bytes_of, bytes_at, end_at, within};
+ghost use Rattle.cmm_scenario.specs.Outcome.{ReadsAs};
+ghost use Rattle.cmm_scenario.specs.Words.{is_space, leading_word, after_word, take_word, take_number, word_number, has_number_size, word_bytes, take_bytes, take_end, within};
 
 use crate::fault::Kind;
 use cmm_types::{Bytes64, MAX_BYTES};
@@ -12,9 +12,9 @@ fn first_space(text: &[u8]) -> Option<usize>
 }
 
 /// The text up to its first space, and the text from there on.
-#[tactic(auto, unfolding(crate::specs::Words::first_word, crate::specs::Words::after_word))]
+#[tactic(auto, unfolding(crate::specs::Words::leading_word, crate::specs::Words::after_word))]
 pub fn split_word(text: &[u8]) -> (&[u8], &[u8])
-    ensures word { result.0.now ≡ first_word text.now }
+    ensures word { result.0.now ≡ leading_word text.now }
     ensures rest { result.1.now ≡ after_word text.now }
     ensures parts { length result.0.now + length result.1.now ≡ length text.now }
 {
@@ -25,9 +25,9 @@ pub fn split_word(text: &[u8]) -> (&[u8], &[u8])
 }
 
 /// The word behind a space.
-#[tactic(auto, unfolding(crate::specs::Words::word_at))]
+#[tactic(auto, unfolding(crate::specs::Words::take_word))]
 pub fn next_word(text: &[u8]) -> Result<(&[u8], &[u8]), Kind>
-    ensures { Shows (λ x. (x.0.now, x.1.now)) result (word_at text.now) }
+    ensures { ReadsAs (λ x. (x.0.now, x.1.now)) result (take_word text.now) }
 {
     match text {
         [b' ', text @ ..] => Ok(split_word(text)),
@@ -47,9 +47,9 @@ fn has_number_size(digits: &[u8]) -> bool
 }
 
 /// The number that a word of digits spells: `0`, or at most ten digits without a leading `0`.
-#[tactic(auto, unfolding(crate::specs::Words::number_of))]
-fn number_of(word: &[u8]) -> Result<u64, Kind>
-    ensures { result ≡ number_of word.now }
+#[tactic(auto, unfolding(crate::specs::Words::word_number))]
+fn word_number(word: &[u8]) -> Result<u64, Kind>
+    ensures { result ≡ word_number word.now }
 {
     if !has_number_size(word) {
         return Err(Kind::Text);
@@ -64,19 +64,19 @@ fn number_of(word: &[u8]) -> Result<u64, Kind>
     Ok(number)
 }
 
-#[tactic(auto, unfolding(crate::specs::Words::number_at))]
+#[tactic(auto, unfolding(crate::specs::Words::take_number))]
 pub fn next_number(text: &[u8]) -> Result<(u64, &[u8]), Kind>
-    ensures { Shows (λ x. (x.0, x.1.now)) result (number_at text.now) }
+    ensures { ReadsAs (λ x. (x.0, x.1.now)) result (take_number text.now) }
 {
     let (word, rest) = next_word(text)?;
-    let number = number_of(word)?;
+    let number = word_number(word)?;
     Ok((number, rest))
 }
 
 /// The bytes that a word of 2 to 128 hexadecimal digits spells.
-#[tactic(auto, unfolding(crate::specs::Words::bytes_of))]
-fn bytes_of(word: &[u8]) -> Result<Bytes64, Kind>
-    ensures { result ≡ bytes_of word.now }
+#[tactic(auto, unfolding(crate::specs::Words::word_bytes))]
+fn word_bytes(word: &[u8]) -> Result<Bytes64, Kind>
+    ensures { result ≡ word_bytes word.now }
 {
     if word.is_empty() || 2 * MAX_BYTES < word.len() {
         return Err(Kind::Text);
@@ -89,18 +89,18 @@ fn bytes_of(word: &[u8]) -> Result<Bytes64, Kind>
     }
 }
 
-#[tactic(auto, unfolding(crate::specs::Words::bytes_at))]
+#[tactic(auto, unfolding(crate::specs::Words::take_bytes))]
 pub fn next_bytes(text: &[u8]) -> Result<(Bytes64, &[u8]), Kind>
-    ensures { Shows (λ x. (x.0, x.1.now)) result (bytes_at text.now) }
+    ensures { ReadsAs (λ x. (x.0, x.1.now)) result (take_bytes text.now) }
 {
     let (word, rest) = next_word(text)?;
-    let bytes = bytes_of(word)?;
+    let bytes = word_bytes(word)?;
     Ok((bytes, rest))
 }
 
-#[tactic(auto, unfolding(crate::specs::Words::end_at))]
+#[tactic(auto, unfolding(crate::specs::Words::take_end))]
 pub fn end_of_text(text: &[u8]) -> Result<(), Kind>
-    ensures { result ≡ end_at text.now }
+    ensures { result ≡ take_end text.now }
 {
     if text.is_empty() {
         Ok(())

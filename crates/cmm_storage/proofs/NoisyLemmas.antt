@@ -8,12 +8,13 @@ use Rattle.cmm_types.specs.declared.page.Content.TheVariants.{Zero, Resident}
 use Rattle.essa_state.specs.declared.fields.Fields.{Fields}
 use Rattle.essa_state.specs.declared.orders.Order.{Order}
 use Rattle.essa_state.specs.declared.orders.Order.TheVariants.{SetUnused}
-use Rattle.essa_state.specs.PageValue.{PageValue, Contents, Bytes, IsValue, is_lost}
-use Rattle.cmm_storage.specs.StorageView.{content_after, has_bytes, touched_contents, zeros}
-use Rattle.cmm_storage.specs.NoisyState.{NoisyState, IsSound, noisy_content, noisy_value, opening_value}
+use Rattle.essa_state.specs.PageValue.{PageValue, Contents, Bytes, IsValue, is_lost, opening_value}
+use Rattle.cmm_storage.specs.StorageView.{content_after, has_bytes, touched_contents}
+use Rattle.cmm_types.specs.Bytes.{zero_page}
+use Rattle.cmm_storage.specs.NoisyState.{NoisyState, IsNoisyState, noisy_content, noisy_value}
 
 pub filled_value : (w w' : Fields) (bytes bytes' : List ℕ) → w.content ≡ Zero → is_lost (noisy_value w bytes).contents ≡ false →
-    w' ≡ record w { content = Resident } → bytes' ≡ zeros →
+    w' ≡ record w { content = Resident } → bytes' ≡ zero_page →
     noisy_value w' bytes' ≡ record (noisy_value w bytes) { contents = touched_contents true (noisy_value w bytes).contents }
 filled_value w w' bytes bytes' zero kept word filled = grind arith
 
@@ -27,14 +28,14 @@ pub noisy_content-same : (a b : Contents) → has_bytes a ≡ has_bytes b → no
 noisy_content-same (Bytes bytes) b same = grind arith
 noisy_content-same a b same = grind arith
 
-pub zeros_filled : (bytes : List ℕ) (count : ℕ) → bytes ≡ replicate count 0 → count ≡ PAGE → bytes ≡ zeros
-unfolding zeros
+pub zeros_filled : (bytes : List ℕ) (count : ℕ) → bytes ≡ replicate count 0 → count ≡ PAGE → bytes ≡ zero_page
+unfolding zero_page
 zeros_filled bytes count filled whole = filled ∙ ap (λ n. replicate n 0) whole
 
 -- a noisy storage with another value of one page, which has its bytes or not as before
-pub set_sound : (s : NoisyState) (page : ℕ) (new : PageValue) → IsSound s → page < length s.pages → IsValue new →
+pub set_sound : (s : NoisyState) (page : ℕ) (new : PageValue) → IsNoisyState s → page < length s.pages → IsValue new →
     has_bytes new.contents ≡ has_bytes (slice_index_or s.pages page opening_value).contents →
-    IsSound (record s { pages = slice_set s.pages page new })
+    IsNoisyState (record s { pages = slice_set s.pages page new })
 set_sound s page new sound below value same = record {
   few = simp length-set sound.few;
   below = λ k held. simp length-set (sound.below k held);
@@ -49,8 +50,8 @@ set_sound s page new sound below value same = record {
 }
 
 -- a noisy storage whose page was taken, with the value that it was found with
-pub taken_sound : (s : NoisyState) (page : ℕ) (new : PageValue) → IsSound s → page < length s.pages → IsValue new →
-    IsSound (record s { pages = slice_set s.pages page new; held = Some page; touched = false })
+pub taken_sound : (s : NoisyState) (page : ℕ) (new : PageValue) → IsNoisyState s → page < length s.pages → IsValue new →
+    IsNoisyState (record s { pages = slice_set s.pages page new; held = Some page; touched = false })
 taken_sound s page new sound there value = record {
   few = simp length-set sound.few;
   below = λ k held. let same : page ≡ k = cc in simp length-set (subst (λ (i : ℕ). i < length s.pages) same there);

@@ -2,9 +2,8 @@
 use Rattle.std.specs.Prelude.{◌≡◌, ◌<◌, ◌^◌, ℕ, List, [], length, Bool, true, false, Option, Some, None, replicate, slice_index_or}
 use Rattle.cmm_types.specs.declared.page.Content.{Content}
 use Rattle.cmm_types.specs.declared.page.Content.TheVariants.{Resident, Zero}
-use Rattle.cmm_types.specs.declared.page.Usage.TheVariants.{U}
 use Rattle.essa_state.specs.declared.fields.Fields.{Fields}
-use Rattle.essa_state.specs.PageValue.{PageValue, Contents, Bytes, Blank, Lost, IsValue}
+use Rattle.essa_state.specs.PageValue.{PageValue, opening_value, Contents, Bytes, Blank, Lost, IsValue}
 use Rattle.essa_state.specs.PageBody.{actual}
 use Rattle.cmm_storage.specs.StorageView.{StorageView, has_bytes}
 
@@ -19,10 +18,6 @@ pub record NoisyState : Type 0 where
   pub faults : ℕ
   pub misses : ℕ
 
--- unused, without contents, and never discarded
-abbrev pub opening_value : PageValue
-opening_value = record { usage = U; changed = false; contents = Blank; count = 0 }
-
 abbrev pub noisy_opening : ℕ → NoisyState
 noisy_opening count = record { pages = replicate count opening_value; held = None; touched = false; faults = 0; misses = 0 }
 
@@ -33,9 +28,9 @@ noisy_content Blank = Zero
 noisy_content Lost = Zero
 
 -- where the held page is
-abbrev pub held_content : List PageValue → Option ℕ → Content
-held_content pages None = Zero
-held_content pages (Some page) = noisy_content (slice_index_or pages page opening_value).contents
+abbrev pub noisy_held_content : List PageValue → Option ℕ → Content
+noisy_held_content pages None = Zero
+noisy_held_content pages (Some page) = noisy_content (slice_index_or pages page opening_value).contents
 
 abbrev pub noisy_view : NoisyState → StorageView
 noisy_view s = record {
@@ -47,11 +42,11 @@ noisy_view s = record {
   misses = s.misses;
   quiet = false;
   tells = true;
-  content = held_content s.pages s.held;
+  content = noisy_held_content s.pages s.held;
 }
 
 -- the held page is one of the pages, and has its bytes while it is touched; every page's value is one
-pub record IsSound (s : NoisyState) : Type 0 where
+pub record IsNoisyState (s : NoisyState) : Type 0 where
   pub few : length s.pages < 2 ^ 32
   pub below : (page : ℕ) → s.held ≡ Some page → page < length s.pages
   pub bytes : (page : ℕ) → s.held ≡ Some page → s.touched ≡ true → has_bytes (slice_index_or s.pages page opening_value).contents ≡ true

@@ -1,5 +1,6 @@
 -- What a guest may know of its pages, and what each call does to it.
-use Rattle.std.specs.Prelude.{◌≡◌, ◌≢◌, ℕ, ◌+◌, ◌≤◌, List, [], ◌++◌, length, take, drop, replicate, Bool, true, false, not, Option, Some, None, Ok, Err}
+use Rattle.std.specs.Prelude.{◌≡◌, ◌≢◌, ℕ, ◌≤◌, List, [], length, take, drop, Bool, true, false, not, Option, Some, None, Ok, Err}
+use Rattle.cmm_types.specs.Bytes.{zero_page, with_bytes}
 use Rattle.cmm_types.specs.declared.page.TheConstants.{PAGE}
 use Rattle.cmm_types.specs.declared.page.Usage.{Usage}
 use Rattle.cmm_types.specs.declared.page.Usage.TheVariants.{S, U, P, V}
@@ -36,21 +37,17 @@ abbrev pub told : (tells : Bool) → List ℕ → List ℕ
 told true bytes = bytes
 told false bytes = []
 
--- a page of zeros
-unfoldable pub zeros : List ℕ
-zeros = replicate PAGE 0
-
 -- the contents that a good touch leaves
 abbrev pub touched_contents : (tells : Bool) → Contents → Contents
 touched_contents tells (Bytes bytes) = Bytes bytes
-touched_contents tells Blank = Bytes (told tells zeros)
+touched_contents tells Blank = Bytes (told tells zero_page)
 touched_contents tells Lost = Lost
 
 -- the bytes of a page, as a guest reads them
 abbrev pub bytes_of : Contents → List ℕ
 bytes_of (Bytes bytes) = bytes
-bytes_of Blank = zeros
-bytes_of Lost = zeros
+bytes_of Blank = zero_page
+bytes_of Lost = zero_page
 
 abbrev pub has_bytes : Contents → Bool
 has_bytes (Bytes bytes) = true
@@ -63,13 +60,9 @@ pub record IsWhole (contents : Contents) : Type 0 where
   pub are : contents ≡ Bytes all
   pub size : length all ≡ PAGE
 
--- the old bytes with the new ones at an offset
-abbrev pub write_at : List ℕ → ℕ → List ℕ → List ℕ
-write_at old off new = take off old ++ new ++ drop (off + length new) old
-
 -- a store writes its bytes and sets the change bit
 abbrev pub stored_value : (tells : Bool) → PageValue → ℕ → List ℕ → PageValue
-stored_value tells value off new = record value { changed = true; contents = Bytes (told tells (write_at (bytes_of value.contents) off new)) }
+stored_value tells value off new = record value { changed = true; contents = Bytes (told tells (with_bytes (bytes_of value.contents) off new)) }
 
 -- a page may be written while it is stable or potentially volatile
 abbrev pub can_store : Usage → Bool

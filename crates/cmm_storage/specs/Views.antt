@@ -5,7 +5,7 @@ use Rattle.std.proofs.lemmas.Bool.{cases_eq}
 use Rattle.cmm_io.specs.DiskCall.{DiskCall, Read, Write}
 use Rattle.cmm_io.specs.DiskView.{DiskView, DiskFollows, DiskKeeps}
 use Rattle.essa_state.specs.PageValue.{MayBecome}
-use Rattle.essa_state.specs.PageValueLaws.{MayBecome-trans}
+use Rattle.essa_state.specs.Laws.PageValueLaws.{MayBecome-trans}
 use Rattle.cmm_storage.specs.declared.storage.Trap.TheVariants.{Discarded, Paging, NoFrame}
 use Rattle.cmm_storage.specs.StorageCall.{StorageCall, Take, Touch, Give, TakeChange, Fetch, Store, Put}
 use Rattle.cmm_storage.specs.StorageView.{StorageView, Follows, Keeps}
@@ -69,16 +69,16 @@ unbind (write_block n bytes k) f v d b w e (r, m, now, rest) =
     record { answer = x.answer; storage = x.storage; disk = x.disk; first = (r, m, now, x.first); second = x.second }
 
 -- the page that a call names
-abbrev pub page_of : StorageCall → ℕ
-page_of (Take page answer) = page
-page_of (Touch page answer) = page
-page_of (Give page code old) = page
-page_of (TakeChange page changed) = page
-page_of (Fetch page off bytes) = page
-page_of (Store page off bytes) = page
-page_of (Put page) = page
+abbrev pub page_called : StorageCall → ℕ
+page_called (Take page answer) = page
+page_called (Touch page answer) = page
+page_called (Give page code old) = page
+page_called (TakeChange page changed) = page
+page_called (Fetch page off bytes) = page
+page_called (Store page off bytes) = page
+page_called (Put page) = page
 
-pub Follows-Keeps : (v : StorageView) (call : StorageCall) (w : StorageView) → Follows v call w → Keeps v (page_of call) w
+pub Follows-Keeps : (v : StorageView) (call : StorageCall) (w : StorageView) → Follows v call w → Keeps v (page_called call) w
 Follows-Keeps v (Take page (Ok got)) w h = h.0
 Follows-Keeps v (Take page (Err busy)) w h = h.0
 Follows-Keeps v (Touch page (Ok got)) w h = h.0

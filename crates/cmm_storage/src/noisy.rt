@@ -57,13 +57,13 @@ pub struct NoisyStorage {
 }
 
 impl Model for NoisyStorage {
-    ghost use Rattle.cmm_storage.specs.NoisyState.{NoisyState, IsSound};
+    ghost use Rattle.cmm_storage.specs.NoisyState.{NoisyState, IsNoisyState};
 
     ghost Value = { NoisyState };
 
     ghost view = { λ s. record { pages = s.pages.items; held = s.held; touched = s.touched; faults = s.faults; misses = s.misses } };
 
-    ghost invariant = { λ s. IsSound (record { pages = s.pages.items; held = s.held; touched = s.touched; faults = s.faults; misses = s.misses }) };
+    ghost invariant = { λ s. IsNoisyState (record { pages = s.pages.items; held = s.held; touched = s.touched; faults = s.faults; misses = s.misses }) };
 }
 
 impl NoisyStorage {

@@ -2,9 +2,10 @@
 ghost use Rattle.std.specs.Prelude.{◌≡◌, ◌+◌, ◌<◌, ◌≤◌, length, take, drop, true, false, IfOk};
 ghost use Rattle.cmm_types.specs.declared.page.TheConstants.{PAGE};
 ghost use Rattle.essa_state.specs.declared.fields.TheConstants.{LAST_COUNT};
-ghost use Rattle.essa_state.specs.PageValue.{Bytes, IsValue, OrderStep, MayBecome, is_lost, may_lose};
-ghost use Rattle.cmm_storage.specs.StorageView.{IsBusyWord, IsWhole, bytes_of, has_bytes, content_after, stored_value, touched_contents, zeros};
-ghost use Rattle.cmm_storage.specs.NoisyState.{noisy_content, opening_value};
+ghost use Rattle.essa_state.specs.PageValue.{Bytes, IsValue, OrderStep, MayBecome, is_lost, may_lose, opening_value};
+ghost use Rattle.cmm_storage.specs.StorageView.{IsBusyWord, IsWhole, bytes_of, has_bytes, content_after, stored_value, touched_contents};
+ghost use Rattle.cmm_types.specs.Bytes.{zero_page};
+ghost use Rattle.cmm_storage.specs.NoisyState.{noisy_content};
 
 use cmm_types::{Content, Move, PAGE, Usage};
 use essa_state::{Fields, Old, Order, Word, apply_order, host_move};

@@ -1,2 +1,3 @@
+pub mod Bytes
 pub mod InRange
-pub mod RangeLaws
+pub mod Laws

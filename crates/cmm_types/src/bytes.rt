@@ -14,12 +14,13 @@ pub struct Bytes64 {
 
 impl Model for Bytes64 {
     ghost use Rattle.std.specs.Prelude.{List, ℕ, ◌≤◌, length};
+    ghost use Rattle.cmm_types.specs.declared.bytes.TheConstants.{MAX_BYTES};
 
     ghost Value = { List ℕ };
 
     ghost view = { λ b. b.bytes.items };
 
-    ghost invariant = { λ b. length b.bytes.items ≤ 64 };
+    ghost invariant = { λ b. length b.bytes.items ≤ MAX_BYTES };
 
     ghost inverse = { λ bytes. record { bytes = record { items = bytes } } };
 }
@@ -27,7 +28,7 @@ impl Model for Bytes64 {
 impl Bytes64 {
     /// These bytes; `None` where there are more than 64.
     pub fn from_slice(bytes: &[u8]) -> Option<Bytes64>
-        ensures fits { IsSome result ↔ (length bytes.now ≤ 64) }
+        ensures fits { IsSome result ↔ (length bytes.now ≤ MAX_BYTES) }
         ensures same { IfSome result (λ copy. copy ≡ bytes.now) }
     {
         let mut copy = ArrayVec::new();
@@ -39,7 +40,7 @@ impl Bytes64 {
 
     pub fn as_slice(&self) -> &[u8]
         ensures same { result.now ≡ self.now }
-        ensures short { length result.now ≤ 64 }
+        ensures short { length result.now ≤ MAX_BYTES }
     {
         self.bytes.as_slice()
     }

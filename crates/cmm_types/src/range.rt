@@ -106,7 +106,7 @@ impl GuestPlan {
     }
 
     /// The blocks of the guest's disk: its file pages, and behind them its swap slots.
-    #[tactic(auto, using(crate::specs::RangeLaws::file_pages_bound))]
+    #[tactic(auto, using(crate::specs::Laws::RangeLaws::file_pages_bound))]
     pub fn blocks(&self) -> u32
         requires { GuestInRange self.now }
         ensures { result ≡ blocks_of self.now }
@@ -175,7 +175,7 @@ fn are_guests(guests: &[GuestPlan]) -> bool
         && guests.iter().all(GuestPlan::is_in_range)
 }
 
-#[tactic(auto, using(crate::specs::RangeLaws::guest_pages_bound, crate::specs::RangeLaws::guest_blocks_bound))]
+#[tactic(auto, using(crate::specs::Laws::RangeLaws::guest_pages_bound, crate::specs::Laws::RangeLaws::guest_blocks_bound))]
 fn guests_in_range(guests: &[GuestPlan]) -> bool
     ensures { IsTrue result ↔ GuestsInRange guests.now }
 {

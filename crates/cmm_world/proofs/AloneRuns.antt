@@ -19,7 +19,7 @@ use Rattle.cmm_io.specs.DiskView.{DiskView, DiskFollows}
 use Rattle.cmm_storage.specs.StorageCall.{StorageCall}
 use Rattle.cmm_storage.specs.StorageView.{StorageView, Follows}
 use Rattle.cmm_storage.specs.Program.{Does}
-use Rattle.cmm_storage.specs.Views.{does_seen, page_of}
+use Rattle.cmm_storage.specs.Views.{does_seen, page_called}
 use Rattle.host_plain.specs.HostState.{HostState, HostStep, Leaves, host_view, served}
 use Rattle.guest_rules.specs.GuestState.{GuestState, opening_guest, processor_at}
 use Rattle.guest_rules.specs.Turns.{turn, turn_on}
@@ -27,6 +27,7 @@ use Rattle.guest_rules.specs.Alone.{alone, alone_within, alone_after, most_turns
 use Rattle.guest_rules.specs.Fit.{Fit}
 use Rattle.guest_rules.specs.Cause.{AloneCause}
 use Rattle.guest_rules.proofs.TurnLaws.{Causes-alone}
+use Rattle.guest_core.proofs.AloneDiscards.{stopped_at, finished_at, waits_at}
 use Rattle.cmm_world.specs.WorldState.{WorldState, guest_at, disk_at, no_plan}
 use Rattle.cmm_world.specs.WorldFit.{IsWorld}
 use Rattle.cmm_world.specs.Run.{turned, turn_step, turns_on, turns_after, alone_step, world_step, answers_of, world_after}
@@ -40,14 +41,6 @@ use Rattle.cmm_world.proofs.TurnRuns.{AfterTurn, HasReached-none, HasReached-the
 abbrev pub turns_of : (guest cpu count : ℕ) → List Event
 turns_of guest cpu count = replicate count (Cpu guest cpu)
 
--- what is answered where the turns stop, after so many that moved
-abbrev pub stopped : ℕ → Turn → AloneOutcome
-stopped turns Moved = AloneIdle
-stopped turns Finished = AloneFinished (turns + 1)
-stopped turns (Waits page owner) = AloneWaits turns page owner
-stopped turns (Again why) = AloneIdle
-stopped turns Idle = AloneIdle
-
 -- some turns that moved, and a last one, with which they stop
 pub record Stops (turns : ℕ) (w : WorldState) (guest cpu : ℕ) (a : AloneOutcome) (x : WorldState) : Type 0 where
   pub moved : ℕ
@@ -55,7 +48,7 @@ pub record Stops (turns : ℕ) (w : WorldState) (guest cpu : ℕ) (a : AloneOutc
   pub answers : answers_of w (turns_of guest cpu (suc moved)) ≡ replicate moved (TurnAnswer Moved) ++ TurnAnswer last ∷ []
   pub world : world_after w (turns_of guest cpu (suc moved)) ≡ x
   pub discards : NoStepDiscardsWrongly w (turns_of guest cpu (suc moved))
-  pub answer : a ≡ stopped (turns + moved) last
+  pub answer : a ≡ stopped_at (turns + moved) last
 
 -- what at most `left` turns, after so many that moved, leave of the world. They all moved where they don't stop
 pub record AfterTurns (left turns : ℕ) (w : WorldState) (guest cpu : ℕ) (h : GuestState) (a : AloneOutcome) (k : HostState) (e : DiskState) : Type 0 where
@@ -100,7 +93,7 @@ after_none turns w guest cpu h a k e world is_guest idle is_host is_disk =
 
 -- the turn didn't move
 after_stop : (left turns : ℕ) (w : WorldState) (guest cpu : ℕ) (h : GuestState) (r : Turn) (a : AloneOutcome) (k : HostState) (e : DiskState)
-    → ((next : WorldState → AloneOutcome × WorldState) (x : WorldState) → turns_on next turns r x ≡ (stopped turns r, x)) → a ≡ stopped turns r → AfterTurn w guest cpu h r k e
+    → ((next : WorldState → AloneOutcome × WorldState) (x : WorldState) → turns_on next turns r x ≡ (stopped_at turns r, x)) → a ≡ stopped_at turns r → AfterTurn w guest cpu h r k e
     → AfterTurns (suc left) turns w guest cpu h a k e
 after_stop left turns w guest cpu h r a k e on answer next =
     let x = with_turn w guest h k e in
@@ -116,7 +109,7 @@ after_stop left turns w guest cpu h r a k e on answer next =
         answers = ap (λ (q : Answer × WorldState). q.0 ∷ []) event;
         world = ap (λ (q : Answer × WorldState). q.1) event;
         discards = (subst (λ (q : Answer × WorldState). NoWrongDiscards w q.1) (sym event) next.discards, tt);
-        answer = answer ∙ ap (λ n. stopped n r) (let n : turns ≡ turns + 0 = omega arith in n);
+        answer = answer ∙ ap (λ n. stopped_at n r) (let n : turns ≡ turns + 0 = omega arith in n);
       });
     }
 
@@ -129,7 +122,7 @@ more_stops turns w m guest cpu a x event rightly s = record {
   answers = ap (λ (q : Answer × WorldState). q.0 ∷ answers_of q.1 (turns_of guest cpu (suc s.moved))) event ∙ ap (λ list. TurnAnswer Moved ∷ list) s.answers;
   world = ap (λ (q : Answer × WorldState). world_after q.1 (turns_of guest cpu (suc s.moved))) event ∙ s.world;
   discards = subst (λ (q : Answer × WorldState). NoWrongDiscards w q.1 × NoStepDiscardsWrongly q.1 (turns_of guest cpu (suc s.moved))) (sym event) (rightly, s.discards);
-  answer = s.answer ∙ ap (λ n. stopped n s.last) (let n : turns + 1 + s.moved ≡ turns + suc s.moved = omega arith in n);
+  answer = s.answer ∙ ap (λ n. stopped_at n s.last) (let n : turns + 1 + s.moved ≡ turns + suc s.moved = omega arith in n);
 }
 
 after_more : (left turns : ℕ) (w : WorldState) (guest cpu : ℕ) (g h : GuestState) (a : AloneOutcome) (j k : HostState) (d e : DiskState) → guest < length w.guests
@@ -168,20 +161,6 @@ step_by_step w guest cpu a x step s = record {
   world = subst (λ (q : AloneOutcome × WorldState). world_after w (turns_of guest cpu (turns_taken q.0)) ≡ q.1) (sym step) s.world;
   discards = subst (λ (q : AloneOutcome × WorldState). NoStepDiscardsWrongly w (turns_of guest cpu (turns_taken q.0))) (sym step) s.discards;
 }
-
-finished_at : (n m : ℕ) (r : Turn) → AloneFinished n ≡ stopped m r → (r ≡ Finished) × (n ≡ m + 1)
-finished_at n m Moved same = let bad : AloneFinished n ≡ AloneIdle = same in absurd cc
-finished_at n m Finished same = let its : AloneFinished n ≡ AloneFinished (m + 1) = same in (refl, cc)
-finished_at n m (Waits page owner) same = let bad : AloneFinished n ≡ AloneWaits m page owner = same in absurd cc
-finished_at n m (Again why) same = let bad : AloneFinished n ≡ AloneIdle = same in absurd cc
-finished_at n m Idle same = let bad : AloneFinished n ≡ AloneIdle = same in absurd cc
-
-waits_at : (n page owner m : ℕ) (r : Turn) → AloneWaits n page owner ≡ stopped m r → (r ≡ Waits page owner) × (n ≡ m)
-waits_at n page owner m Moved same = let bad : AloneWaits n page owner ≡ AloneIdle = same in absurd cc
-waits_at n page owner m Finished same = let bad : AloneWaits n page owner ≡ AloneFinished (m + 1) = same in absurd cc
-waits_at n page owner m (Waits at by) same = let its : AloneWaits n page owner ≡ AloneWaits m at by = same in (let r : Waits at by ≡ Waits page owner = cc in r, cc)
-waits_at n page owner m (Again why) same = let bad : AloneWaits n page owner ≡ AloneIdle = same in absurd cc
-waits_at n page owner m Idle same = let bad : AloneWaits n page owner ≡ AloneIdle = same in absurd cc
 
 -- where the turns stop because the command is finished
 spelled_finished : (n : ℕ) (w : WorldState) (guest cpu : ℕ) (x : WorldState) → Stops 0 w guest cpu (AloneFinished n) x → IsSpelled w guest cpu (AloneFinished n) x
@@ -260,7 +239,7 @@ module _ {S D : Type 0} (ss : S → StorageCall → S → Type 0) (ds : D → Di
     (dm : (d : D) (call : DiskCall) (e : D) → ds d call e → DiskStep (dv d) call (dv e))
     (sf : (s : S) (call : StorageCall) (t : S) → ss s call t → Follows (host_view (sv s)) call (host_view (sv t)))
     (df : (d : D) (call : DiskCall) (e : D) → ds d call e → DiskFollows (disk_view (dv d)) call (disk_view (dv e)))
-    (sl : (s : S) (call : StorageCall) (t : S) → ss s call t → Leaves (sv s) (page_of call) (sv t)) where
+    (sl : (s : S) (call : StorageCall) (t : S) → ss s call t → Leaves (sv s) (page_called call) (sv t)) where
   -- what follows the turn
   follow : (left turns : ℕ) (w : WorldState) (guest cpu : ℕ) (g h : GuestState) (r : Turn) (a : AloneOutcome) (m : S) (n : D) (t : S) (e : D) → guest < length w.guests
       → (Does ss ds (alone_within left (turns + 1) g cpu) m n (h, a) t e → AfterTurns left (turns + 1) (with_turn w guest g (sv m) (dv n)) guest cpu h a (sv t) (dv e))

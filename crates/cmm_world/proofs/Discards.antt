@@ -5,8 +5,8 @@ use Rattle.std.proofs.lemmas.Bool.{cases_lt}
 use Rattle.std.proofs.lemmas.List.{get_or_past}
 use Rattle.std.proofs.lemmas.List.Sums.{sum_by_more}
 use Rattle.essa_state.specs.declared.fields.Fields.{Fields}
-use Rattle.host_plain.specs.MemoryState.{opening_word}
-use Rattle.host_plain.specs.HostState.{start_of, pages_of}
+use Rattle.essa_state.specs.StateWord.{opening_word}
+use Rattle.host_plain.specs.HostState.{first_place, pages_of}
 use Rattle.guest_rules.specs.Fit.{sum_below}
 use Rattle.cmm_world.specs.WorldState.{WorldState, guest_at}
 use Rattle.cmm_world.specs.WorldView.{discards_of}
@@ -38,4 +38,4 @@ sum_below-words words start (suc count) =
 
 -- a guest's handled faults are at most the discards of its pages
 pub faults_few : (w : WorldState) (guest : ℕ) → WorldFit w → guest < length w.guests → (guest_at w guest).parts.faults ≤ discards_of w guest
-faults_few w guest fit below = omega (arith, (fit guest below).faults, sum_below-words w.host.memory.words (start_of w.host guest) (pages_of w.host guest))
+faults_few w guest fit below = omega (arith, (fit guest below).faults, sum_below-words w.host.memory.words (first_place w.host guest) (pages_of w.host guest))

@@ -17,7 +17,7 @@ use Rattle.cmm_io.specs.DiskCall.{DiskCall}
 use Rattle.cmm_storage.specs.declared.storage.Busy.{Busy}
 use Rattle.cmm_storage.specs.StorageCall.{StorageCall}
 use Rattle.cmm_storage.specs.Program.{Program, done, Does}
-use Rattle.cmm_storage.specs.Views.{page_of as named_page}
+use Rattle.cmm_storage.specs.Views.{page_called as named_page}
 use Rattle.guest_pages.specs.PagesView.{info_at}
 use Rattle.guest_cache.specs.CacheView.{page_of}
 use Rattle.guest_maps.specs.declared.slot.Pte.{Pte}
@@ -30,8 +30,8 @@ use Rattle.guest_rules.specs.declared.outcome.Filled.{Filled}
 use Rattle.guest_rules.specs.declared.outcome.Filled.TheVariants.{Done as FilledDone, Again as FilledAgain, Fail as FilledFail}
 use Rattle.guest_rules.specs.declared.outcome.Missed.{Missed}
 use Rattle.guest_rules.specs.declared.outcome.Missed.TheVariants.{Gone as MissedGone, Again as MissedAgain, Fail as MissedFail}
-use Rattle.guest_rules.specs.declared.outcome.Resolved.{Resolved}
-use Rattle.guest_rules.specs.declared.outcome.Resolved.TheVariants.{Mapped, Gone as EntryGone, Again as EntryAgain}
+use Rattle.guest_rules.specs.declared.outcome.Placed.{Placed}
+use Rattle.guest_rules.specs.declared.outcome.Placed.TheVariants.{Done as PlaceDone, Gone as PlaceGone, Again as PlaceAgain}
 use Rattle.guest_rules.specs.GuestState.{GuestState, processor_at, with_parts, entered}
 use Rattle.guest_rules.specs.Rows.{fill, resolve, load_page, store_through}
 use Rattle.guest_rules.specs.Turns.{turn, turn_on, turn_in, start_turn, start_refused, start_accepted, start_mapped, start_entry, start_at, start_found, start_free, start_locked}
@@ -116,16 +116,16 @@ module _ {S D : Type 0} (ss : S → StorageCall → S → Type 0) (ds : D → Di
       let x = halfway ss ds (fill g.parts page) (λ (went : Parts × Filled). fill_next g cpu op went.0 went.1) s d (h, Finished) t e run in
       fill_next-never g cpu op x.answer.0 x.answer.1 x.storage x.disk h t e entry gets x.second
 
-  resolve_next-never : (g : GuestState) (parts : Parts) (went : Resolved) (s : S) (d : D) (h : GuestState) (t : S) (e : D) → Ends g (resolve_next g parts went) s d h t e → ⊥
-  resolve_next-never g parts Mapped s d h t e (ea, es, ed) = not_moved _ h ea
-  resolve_next-never g parts EntryGone s d h t e (ea, es, ed) = not_moved _ h ea
-  resolve_next-never g parts (EntryAgain why) s d h t e (ea, es, ed) = not_again _ h why ea
+  resolve_next-never : (g : GuestState) (parts : Parts) (went : Placed) (s : S) (d : D) (h : GuestState) (t : S) (e : D) → Ends g (resolve_next g parts went) s d h t e → ⊥
+  resolve_next-never g parts PlaceDone s d h t e (ea, es, ed) = not_moved _ h ea
+  resolve_next-never g parts PlaceGone s d h t e (ea, es, ed) = not_moved _ h ea
+  resolve_next-never g parts (PlaceAgain why) s d h t e (ea, es, ed) = not_again _ h why ea
 
   resolve_in-never : (g : GuestState) (page number off : ℕ) (writable : Bool) (process : ℕ) (slot : Option ℕ) (s : S) (d : D) (h : GuestState) (t : S) (e : D)
       → Ends g (resolve_in g page number off writable process slot) s d h t e → ⊥
   resolve_in-never g page number off writable process None s d h t e (ea, es, ed) = not_idle _ h ea
   resolve_in-never g page number off writable process (Some slot) s d h t e run =
-      let x = halfway ss ds (resolve g.parts page slot (off / PAGE) writable) (λ (went : Parts × Resolved). resolve_next g went.0 went.1) s d (h, Finished) t e run in
+      let x = halfway ss ds (resolve g.parts page slot (off / PAGE) writable) (λ (went : Parts × Placed). resolve_next g went.0 went.1) s d (h, Finished) t e run in
       resolve_next-never g x.answer.0 x.answer.1 x.storage x.disk h t e x.second
 
   begin_taken-never : (g : GuestState) (cpu : ℕ) (tag : Tag) (page : ℕ) (r : Result Unit Busy) (s : S) (d : D) (h : GuestState) (t : S) (e : D) → Ends g (begin_taken g cpu tag page r) s d h t e → ⊥

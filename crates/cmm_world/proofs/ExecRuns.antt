@@ -4,19 +4,19 @@ use Rattle.std.proofs.Common.{refl, ap, ◌∙◌}
 use Rattle.cmm_io.specs.declared.failed.Failed.{Failed}
 use Rattle.cmm_io.specs.FailurePlan.{fails_next}
 use Rattle.cmm_io.specs.DiskCall.{DiskCall, Read, Write}
-use Rattle.cmm_io.specs.DiskState.{DiskState, DiskStep, counted}
+use Rattle.cmm_io.specs.DiskState.{DiskState, DiskStep, next_call}
 use Rattle.cmm_storage.specs.StorageCall.{StorageCall, Take, Touch, Give, TakeChange, Fetch, Store, Put}
 use Rattle.cmm_storage.specs.Program.{Program, done, take_page, touch_page, order_page, take_change, fetch_page, store_page, put_page, read_block, write_block, block_read, Does}
 use Rattle.host_plain.specs.HostState.{HostState, HostStep, host_bytes}
-use Rattle.cmm_world.specs.Exec.{exec, answered, after_write}
+use Rattle.cmm_world.specs.Exec.{exec, call_answered, after_write}
 
 was_read : (d : DiskState) (block : ℕ) (r : Result Unit Failed) (bytes : List ℕ) (e : DiskState) → DiskStep d (Read block r bytes) e
-    → (block_read r bytes ≡ answered (fails_next d.failures) (slice_index_or d.blocks block [])) × (e ≡ counted d)
+    → (block_read r bytes ≡ call_answered (fails_next d.failures) (slice_index_or d.blocks block [])) × (e ≡ next_call d)
 was_read d block (Ok u) bytes e (fine, is, after) = (rw (fine, is) refl, after)
 was_read d block (Err failed) bytes e (fails, after) = (rw fails refl, after)
 
 was_written : (d : DiskState) (block : ℕ) (bytes : List ℕ) (r : Result Unit Failed) (e : DiskState) → DiskStep d (Write block bytes r) e
-    → (r ≡ answered (fails_next d.failures) tt) × (e ≡ after_write d block bytes (fails_next d.failures))
+    → (r ≡ call_answered (fails_next d.failures) tt) × (e ≡ after_write d block bytes (fails_next d.failures))
 was_written d block bytes (Ok u) e (fine, after) = (rw fine refl, rw fine after)
 was_written d block bytes (Err failed) e (fails, after) = (rw fails refl, rw fails after)
 

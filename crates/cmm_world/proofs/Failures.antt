@@ -4,7 +4,7 @@ use Rattle.std.proofs.Common.{sym, subst, inl, inr, ◌∙◌, length-set, get_o
 use Rattle.std.proofs.lemmas.Bool.{cases_eq, cases_lt}
 use Rattle.std.proofs.lemmas.List.{get_or_past}
 use Rattle.cmm_io.specs.DiskCall.{DiskCall}
-use Rattle.cmm_io.specs.DiskState.{DiskState, DiskStep, disk_view, opened, counted}
+use Rattle.cmm_io.specs.DiskState.{DiskState, DiskStep, disk_view, opened, next_call}
 use Rattle.cmm_io.specs.FailurePlan.{FailurePlan, after_next, fails_next}
 use Rattle.cmm_io.specs.Counted.{IsCounted}
 use Rattle.cmm_io.proofs.Counted.{counted-next}
@@ -12,7 +12,7 @@ use Rattle.essa_state.specs.Orders.{after_order}
 use Rattle.cmm_storage.specs.StorageCall.{StorageCall}
 use Rattle.cmm_storage.specs.Program.{Program, done, take_page, touch_page, order_page, take_change, fetch_page, store_page, put_page, read_block, write_block, Does}
 use Rattle.host_plain.specs.MemoryState.{old_of}
-use Rattle.host_plain.specs.HostState.{HostState, HostStep, host_view, served, pager_of, no_pager, taken, given_back, touch_of, touch_after, with_host_word, host_word, host_bytes, stored, place_of}
+use Rattle.host_plain.specs.HostState.{HostState, HostStep, host_view, served, pager_of, no_pager, taken, given_back, touch_of, touch_after, with_host_word, host_word, host_bytes, page_stored, list_place}
 use Rattle.host_plain.specs.Keeping.{faults_of}
 use Rattle.host_plain.proofs.PagerCalls.{touched_page-keeps}
 use Rattle.guest_rules.specs.GuestState.{GuestState, opening_guest}
@@ -20,7 +20,7 @@ use Rattle.guest_rules.specs.Failures.{FailuresFit, paging_failures}
 use Rattle.cmm_world.specs.WorldState.{WorldState, guest_at, disk_at, no_plan}
 use Rattle.cmm_world.specs.WorldFit.{IsWorld, view_of}
 use Rattle.cmm_world.specs.Failures.{AreCounted, WorldCounted}
-use Rattle.cmm_world.specs.Exec.{exec, answered, after_write}
+use Rattle.cmm_world.specs.Exec.{exec, call_answered, after_write}
 use Rattle.cmm_world.proofs.ExecRuns.{does_exec}
 use Rattle.cmm_world.proofs.Kept.{KeepsOthers}
 
@@ -37,11 +37,11 @@ module _ (Keeps : FailurePlan → Type 0) (next : (plan : FailurePlan) → Keeps
   exec_disk (order_page page code k) h d kept = exec_disk (k (old_of (host_word h page) code).done) (with_host_word h page (after_order (host_word h page) code)) d kept
   exec_disk (take_change page k) h d kept = exec_disk (k (host_word h page).changed) (with_host_word h page (record (host_word h page) { changed = false })) d kept
   exec_disk (fetch_page page off len k) h d kept = exec_disk (k (take len (drop off (host_bytes h page)))) h d kept
-  exec_disk (store_page page off bytes k) h d kept = exec_disk k (stored h page off bytes) d kept
+  exec_disk (store_page page off bytes k) h d kept = exec_disk k (page_stored h page off bytes) d kept
   exec_disk (put_page page k) h d kept = exec_disk k (given_back h page) d kept
-  exec_disk (read_block block k) h d kept = exec_disk (k (answered (fails_next d.failures) (slice_index_or d.blocks block []))) h (counted d) (next d.failures kept)
+  exec_disk (read_block block k) h d kept = exec_disk (k (call_answered (fails_next d.failures) (slice_index_or d.blocks block []))) h (next_call d) (next d.failures kept)
   exec_disk (write_block block bytes k) h d kept =
-      exec_disk (k (answered (fails_next d.failures) tt)) h (after_write d block bytes (fails_next d.failures)) (written-keeps d block bytes (fails_next d.failures) kept)
+      exec_disk (k (call_answered (fails_next d.failures) tt)) h (after_write d block bytes (fails_next d.failures)) (written-keeps d block bytes (fails_next d.failures) kept)
 
   touched-keeps : (h : HostState) (page guest : ℕ) → Keeps (pager_of h guest) → Keeps (pager_of (touch_after h page) guest)
   unfolding touch_of
@@ -49,7 +49,7 @@ module _ (Keeps : FailurePlan → Type 0) (next : (plan : FailurePlan) → Keeps
     | inl same ↦ elim (cases_lt h.guest (length h.pagers)) [
       | inl below ↦
           rw (same, get_or-set_same h.pagers h.guest (touch_of h page).pager no_pager below)
-          (touched_page-keeps Keeps next h.memory (place_of h page) (pager_of h h.guest) (rw same at kept))
+          (touched_page-keeps Keeps next h.memory (list_place h page) (pager_of h h.guest) (rw same at kept))
       | inr past ↦
           let none : pager_of h guest ≡ no_pager = get_or_past h.pagers guest no_pager (rw same past) in
           let still : pager_of (touch_after h page) guest ≡ no_pager = get_or_past (slice_set h.pagers h.guest (touch_of h page).pager) guest no_pager (rw (same, length-set) past) in
@@ -65,10 +65,10 @@ module _ (Keeps : FailurePlan → Type 0) (next : (plan : FailurePlan) → Keeps
   exec_pager (order_page page code k) h d guest kept = exec_pager (k (old_of (host_word h page) code).done) (with_host_word h page (after_order (host_word h page) code)) d guest kept
   exec_pager (take_change page k) h d guest kept = exec_pager (k (host_word h page).changed) (with_host_word h page (record (host_word h page) { changed = false })) d guest kept
   exec_pager (fetch_page page off len k) h d guest kept = exec_pager (k (take len (drop off (host_bytes h page)))) h d guest kept
-  exec_pager (store_page page off bytes k) h d guest kept = exec_pager k (stored h page off bytes) d guest kept
+  exec_pager (store_page page off bytes k) h d guest kept = exec_pager k (page_stored h page off bytes) d guest kept
   exec_pager (put_page page k) h d guest kept = exec_pager k (given_back h page) d guest kept
-  exec_pager (read_block block k) h d guest kept = exec_pager (k (answered (fails_next d.failures) (slice_index_or d.blocks block []))) h (counted d) guest kept
-  exec_pager (write_block block bytes k) h d guest kept = exec_pager (k (answered (fails_next d.failures) tt)) h (after_write d block bytes (fails_next d.failures)) guest kept
+  exec_pager (read_block block k) h d guest kept = exec_pager (k (call_answered (fails_next d.failures) (slice_index_or d.blocks block []))) h (next_call d) guest kept
+  exec_pager (write_block block bytes k) h d guest kept = exec_pager (k (call_answered (fails_next d.failures) tt)) h (after_write d block bytes (fails_next d.failures)) guest kept
 
 -- what a guest's calls leave of its disk's plan and its pager's
 pub record PlansKept (w : WorldState) (guest : ℕ) (k : HostState) (e : DiskState) : Type 0 where

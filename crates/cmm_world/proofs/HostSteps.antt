@@ -8,11 +8,11 @@ use Rattle.cmm_storage.specs.StorageView.{Follows}
 use Rattle.host_plain.specs.declared.view.HostView.{HostView}
 use Rattle.host_plain.specs.HostState.{HostStep, Leaves, host_view}
 use Rattle.host_plain.specs.Served.{host_of}
-use Rattle.cmm_storage.specs.Views.{page_of}
+use Rattle.cmm_storage.specs.Views.{page_called}
 
 abbrev pub host_step : HostView → StorageCall → HostView → Type 0
 host_step v call w =
-    HostStep (host_of v) call (host_of w) × Follows (host_view (host_of v)) call (host_view (host_of w)) × Leaves (host_of v) (page_of call) (host_of w) × (w.host.ghost_name ≡ v.host.ghost_name)
+    HostStep (host_of v) call (host_of w) × Follows (host_view (host_of v)) call (host_view (host_of w)) × Leaves (host_of v) (page_called call) (host_of w) × (w.host.ghost_name ≡ v.host.ghost_name)
 
 abbrev pub disk_step : DiskState → DiskCall → DiskState → Type 0
 disk_step d call e = DiskStep d call e × DiskFollows (disk_view d) call (disk_view e)

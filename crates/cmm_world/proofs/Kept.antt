@@ -5,8 +5,8 @@ use Rattle.std.proofs.lemmas.Bool.{cases_eq}
 use Rattle.cmm_io.specs.DiskState.{DiskState, disk_view, opened}
 use Rattle.cmm_io.specs.DiskView.{DiskView}
 use Rattle.essa_state.specs.PageValue.{MayBecome}
-use Rattle.essa_state.specs.PageValueLaws.{MayBecome-trans}
-use Rattle.host_plain.specs.HostState.{HostState, Leaves, HostMayMake, start_of, pages_of, pager_of, no_pager, value_of, served, host_view}
+use Rattle.essa_state.specs.Laws.PageValueLaws.{MayBecome-trans}
+use Rattle.host_plain.specs.HostState.{HostState, Leaves, HostMayMake, first_place, pages_of, pager_of, no_pager, value_of, served, host_view}
 use Rattle.guest_rules.specs.GuestState.{GuestState, opening_guest}
 use Rattle.guest_rules.specs.Fit.{Fit}
 use Rattle.host_plain.proofs.Others.{places-apart}
@@ -29,7 +29,7 @@ pub keeps_others : (h : HostState) (page : ℕ) (k : HostState) → Leaves h pag
 keeps_others h page k leaves =
     let spares = leaves.spares in
     let size : (guest : ℕ) → pages_of k guest ≡ pages_of h guest = λ guest. ap (λ q. slice_index_or q (guest + 1) 0 - slice_index_or q guest 0) spares.starts in
-    let start : (guest : ℕ) → start_of k guest ≡ start_of h guest = λ guest. ap (λ q. slice_index_or q guest 0) spares.starts in
+    let start : (guest : ℕ) → first_place k guest ≡ first_place h guest = λ guest. ap (λ q. slice_index_or q guest 0) spares.starts in
     record {
       starts = spares.starts;
       serves = spares.guest;
@@ -37,9 +37,9 @@ keeps_others h page k leaves =
       count = spares.count;
       pagers = spares.pagers;
       others = λ guest at below other inside.
-          let apart : start_of k guest + at ≢ start_of k h.guest + page =
+          let apart : first_place k guest + at ≢ first_place k h.guest + page =
           places-apart k guest h.guest at page leaves.sound (rw spares.count below) (rw (← spares.guest) leaves.sound.guest) other (rw (size guest) inside) (rw (size h.guest) leaves.below) in
-          let may = spares.values (start_of h guest + at) (λ same. apart (rw (start guest, start h.guest) same)) in
+          let may = spares.values (first_place h guest + at) (λ same. apart (rw (start guest, start h.guest) same)) in
           rw (start guest) may;
     }
 

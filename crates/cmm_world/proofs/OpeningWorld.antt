@@ -6,17 +6,18 @@ use Rattle.cmm_types.specs.declared.plan.GuestPlan.{GuestPlan}
 use Rattle.cmm_types.specs.declared.plan.Scenario.{Scenario}
 use Rattle.cmm_types.specs.InRange.{ScenarioInRange, GuestInRange}
 use Rattle.cmm_io.specs.DiskState.{DiskState, disk_view}
-use Rattle.cmm_io.specs.FailurePlan.{plan_of}
+use Rattle.cmm_io.specs.FailurePlan.{failure_plan_of}
 use Rattle.cmm_io.proofs.DiskBlocks.{length-disk_of}
 use Rattle.cmm_io.proofs.Counted.{counted-opening}
 use Rattle.essa_state.specs.PageBody.{actual}
-use Rattle.host_plain.specs.MemoryState.{opening_word, body_at, word_at}
-use Rattle.host_plain.specs.HostState.{HostState, pages_of, pager_of, no_pager, place_of, served, host_view}
+use Rattle.host_plain.specs.MemoryState.{body_at, word_at}
+use Rattle.essa_state.specs.StateWord.{opening_word}
+use Rattle.host_plain.specs.HostState.{HostState, pages_of, pager_of, no_pager, list_place, served, host_view}
 use Rattle.host_plain.proofs.Opening.{opening_word-at}
 use Rattle.host_plain.proofs.Starts.{start-at, next_start}
 use Rattle.guest_rules.specs.GuestState.{GuestState, opening_guest}
 use Rattle.guest_rules.specs.Built.{GuestIsBuilt}
-use Rattle.guest_rules.specs.Fresh.{fresh_value}
+use Rattle.essa_state.specs.PageValue.{opening_value}
 use Rattle.guest_rules.specs.Fit.{Fit}
 use Rattle.guest_rules.proofs.Opening.Opening.{Fit-opening}
 use Rattle.cmm_world.specs.WorldState.{WorldState, guest_at, disk_at, no_plan, opening_disk, opening_host, opening_world}
@@ -37,11 +38,11 @@ pages_at plan guest below =
     let its : slice_index_or counts guest 0 ≡ (plan_at plan guest).pages = get_or-map (λ (g : GuestPlan). g.pages) plan.guests guest no_plan 0 below in
     omega (arith, here, there, next, its)
 
-fresh_at : (plan : Scenario) (guest page : ℕ) → (host_view (served (opening_host plan) guest)).values page ≡ fresh_value
+fresh_at : (plan : Scenario) (guest page : ℕ) → (host_view (served (opening_host plan) guest)).values page ≡ opening_value
 fresh_at plan guest page =
     let h = served (opening_host plan) guest in
-    let word : word_at h.memory (place_of h page) ≡ opening_word = opening_word-at _ (place_of h page) in
-    ap (λ w. actual w (body_at h.memory (place_of h page))) word
+    let word : word_at h.memory (list_place h page) ≡ opening_word = opening_word-at _ (list_place h page) in
+    ap (λ w. actual w (body_at h.memory (list_place h page))) word
 
 fits_at : (plan : Scenario) (guest : ℕ) → guest < length plan.guests → GuestInRange (plan_at plan guest) → GuestIsBuilt (plan_at plan guest)
     → Fit (opening_guest (plan_at plan guest)) (host_view (served (opening_host plan) guest)) (disk_view (opening_disk (plan_at plan guest)))
@@ -55,7 +56,7 @@ fits_at plan guest below range built =
       blocks = refl;
     })
 
-counted_at : (plan : GuestPlan) → AreCounted (opening_guest plan) (opening_disk plan) (plan_of plan.pager_fail)
+counted_at : (plan : GuestPlan) → AreCounted (opening_guest plan) (opening_disk plan) (failure_plan_of plan.pager_fail)
 counted_at plan = record { by_disk = omega arith; by_pager = omega arith; disk_calls = counted-opening plan.disk_fail; pager_calls = counted-opening plan.pager_fail }
 
 pub opening_fits : (plan : Scenario) → ScenarioInRange plan → IsBuilt plan → IsWorld (opening_world plan)
@@ -74,7 +75,8 @@ opening_fits plan range built = record {
       let below : guest < length plan.guests = rw length-map at lt in
       let its : guest_at (opening_world plan) guest ≡ opening_guest (plan_at plan guest) = get_or-map opening_guest plan.guests guest no_plan (opening_guest no_plan) below in
       let disk : disk_at (opening_world plan) guest ≡ opening_disk (plan_at plan guest) = get_or-map opening_disk plan.guests guest no_plan (opening_disk no_plan) below in
-      let pager : pager_of (opening_host plan) guest ≡ plan_of (plan_at plan guest).pager_fail = get_or-map (λ (g : GuestPlan). plan_of g.pager_fail) plan.guests guest no_plan no_pager below in
+      let pager : pager_of (opening_host plan) guest ≡ failure_plan_of (plan_at plan guest).pager_fail =
+      get_or-map (λ (g : GuestPlan). failure_plan_of g.pager_fail) plan.guests guest no_plan no_pager below in
       rw (its, disk, pager) (counted_at (plan_at plan guest));
 }
 

@@ -15,7 +15,7 @@ use Rattle.guest_rules.specs.GuestState.{GuestState}
 use Rattle.cmm_world.specs.WorldState.{WorldState}
 use Rattle.cmm_world.specs.WorldView.{WorldView, plans_of}
 use Rattle.cmm_world.specs.WorldFit.{IsWorld}
-use Rattle.cmm_world.specs.Run.{move_answer, world_step, answers_of, world_after}
+use Rattle.cmm_world.specs.Run.{applied_answer, world_step, answers_of, world_after}
 use Rattle.cmm_world.specs.Steps.{NoWrongDiscards, NoStepDiscardsWrongly, IsStepByStep, steps_of, step_answers}
 use Rattle.cmm_world.specs.Reached.{HasReached}
 use Rattle.cmm_world.specs.Played.{PlaysEvent}
@@ -63,7 +63,7 @@ pub plays_alone : (w : WorldState) (answers : List Answer) (events : ℕ) (guest
 plays_alone w answers events guest cpu h a k e below after =
     plays w answers events (Alone guest cpu) (AloneAnswer a) (with_turn w guest h k e) (sym after.step) after.steps after.reached (plans_kept w.guests guest h below after.plan) after.world
 
-pub move_answered : (made : Result Unit ApplyError) → step_answers (move_answer made) ≡ move_answer made ∷ []
+pub move_answered : (made : Result Unit ApplyError) → step_answers (applied_answer made) ≡ applied_answer made ∷ []
 move_answered (Ok done) = refl
 move_answered (Err (Refused why)) = refl
 move_answered (Err Paging) = refl

@@ -4,17 +4,17 @@ use Rattle.std.proofs.Common.{sym, ap, subst, ◌∙◌, length-set, get_or-set_
 use Rattle.cmm_io.specs.DiskCall.{DiskCall}
 use Rattle.cmm_io.specs.FailurePlan.{FailurePlan}
 use Rattle.essa_state.specs.declared.fields.Fields.{Fields}
-use Rattle.essa_state.specs.StateWord.{is_resident, is_discarded}
+use Rattle.essa_state.specs.StateWord.{is_resident, is_discarded, opening_word}
 use Rattle.cmm_storage.specs.declared.storage.Busy.{Busy}
 use Rattle.cmm_storage.specs.declared.storage.Trap.{Trap}
 use Rattle.cmm_storage.specs.declared.storage.Trap.TheVariants.{Discarded, Paging, NoFrame}
 use Rattle.cmm_storage.specs.StorageCall.{StorageCall, Take, Touch, Fetch, Store, Put}
 use Rattle.cmm_storage.specs.Program.{done, put_page, Does}
-use Rattle.cmm_storage.specs.Views.{page_of}
-use Rattle.host_plain.specs.MemoryState.{MemoryState, word_at, with_use, opening_word}
-use Rattle.host_plain.specs.Eviction.{Paged, freed}
+use Rattle.cmm_storage.specs.Views.{page_called}
+use Rattle.host_plain.specs.MemoryState.{MemoryState, word_at, with_use}
+use Rattle.host_plain.specs.Eviction.{Paged, frame_freed}
 use Rattle.host_plain.specs.Touches.{Touched, touched_page, used_after, filled_after}
-use Rattle.host_plain.specs.HostState.{HostState, HostStep, IsHost, Leaves, pages_of, pager_of, place_of, host_word, held_word, touch_of, touch_after, stored, given_back}
+use Rattle.host_plain.specs.HostState.{HostState, HostStep, IsHost, Leaves, pages_of, pager_of, list_place, host_word, held_word, touch_of, touch_after, page_stored, given_back}
 use Rattle.host_plain.proofs.Places.{place-below}
 use Rattle.guest_rules.specs.declared.parts.Parts.{Parts}
 use Rattle.guest_rules.specs.declared.outcome.Missed.{Missed}
@@ -53,10 +53,10 @@ unfolding touched_page
 touched_page-used m place pager = lost (is_discarded (word_at m place)) (is_resident (word_at m place).content)
   where
     lost : (is resident : Bool) → IsUsed place (if is then record { answer = Err Discarded; memory = m; pager = pager }
-        else if resident then record { answer = Ok tt; memory = with_use m place; pager = pager } else used_after (filled_after (freed m pager) place) place)
+        else if resident then record { answer = Ok tt; memory = with_use m place; pager = pager } else used_after (filled_after (frame_freed m pager) place) place)
     lost true resident below good = absurd (never_good Discarded good)
     lost false true below good = with_use-used m place below
-    lost false false below good = used_after-used (filled_after (freed m pager) place) place below good
+    lost false false below good = used_after-used (filled_after (frame_freed m pager) place) place below good
 
 -- the states that a good touch, a store and the giving back lead to
 touch-reaches : (h : HostState) (page : ℕ) → IsHost (touch_after h page) → h.held ≡ Some page → page < pages_of h h.guest → (touch_of h page).answer ≡ Ok tt → IsReached (touch_after h page) page false
@@ -64,14 +64,14 @@ unfolding touch_of
 touch-reaches h page is held below good = record {
   below = below;
   resident = is.resident page held (ap (λ (r : Result Unit Trap). is_ok r || h.touched) good);
-  referenced = touched_page-used h.memory (place_of h page) (pager_of h h.guest) (place-below (touch_after h page) h.guest page is is.guest below) good;
+  referenced = touched_page-used h.memory (list_place h page) (pager_of h h.guest) (place-below (touch_after h page) h.guest page is is.guest below) good;
   changed = λ writes. let bad : false ≡ true = writes in absurd cc;
 }
 
-store-reaches : (h : HostState) (page off : ℕ) (bytes : List ℕ) → IsHost h → IsReached h page false → IsReached (stored h page off bytes) page true
+store-reaches : (h : HostState) (page off : ℕ) (bytes : List ℕ) → IsHost h → IsReached h page false → IsReached (page_stored h page off bytes) page true
 store-reaches h page off bytes is r =
-    let same : host_word (stored h page off bytes) page ≡ record (host_word h page) { changed = true } =
-    get_or-set_same h.memory.words (place_of h page) (record (host_word h page) { changed = true }) opening_word (place-below h h.guest page is is.guest r.below) in
+    let same : host_word (page_stored h page off bytes) page ≡ record (host_word h page) { changed = true } =
+    get_or-set_same h.memory.words (list_place h page) (record (host_word h page) { changed = true }) opening_word (place-below h h.guest page is is.guest r.below) in
     record {
       below = r.below;
       resident = ap (λ (word : Fields). is_resident word.content) same ∙ r.resident;
@@ -82,7 +82,7 @@ store-reaches h page off bytes is r =
 give-reaches : (h : HostState) (page : ℕ) (writes : Bool) → IsHost h → IsReached h page writes → IsReached (given_back h page) page writes
 give-reaches h page writes is r =
     let same : host_word (given_back h page) page ≡ held_word (host_word h page) false =
-    get_or-set_same h.memory.words (place_of h page) (held_word (host_word h page) false) opening_word (place-below h h.guest page is is.guest r.below) in
+    get_or-set_same h.memory.words (list_place h page) (held_word (host_word h page) false) opening_word (place-below h h.guest page is is.guest r.below) in
     record {
       below = r.below;
       resident = ap (λ (word : Fields). is_resident word.content) same ∙ r.resident;
@@ -100,7 +100,7 @@ no_answer {A} after parts x missed same = let bad : ◌≡◌ {A = Result A Miss
 
 module _ {S D : Type 0} (ss : S → StorageCall → S → Type 0) (ds : D → DiskCall → D → Type 0) (sv : S → HostState)
     (sm : (s : S) (call : StorageCall) (t : S) → ss s call t → HostStep (sv s) call (sv t))
-    (sl : (s : S) (call : StorageCall) (t : S) → ss s call t → Leaves (sv s) (page_of call) (sv t)) where
+    (sl : (s : S) (call : StorageCall) (t : S) → ss s call t → Leaves (sv s) (page_called call) (sv t)) where
   touch_good : (s : S) (page : ℕ) (u : Unit) (m : S) → (sv s).held ≡ Some page → ss s (Touch page (Ok u)) m → IsReached (sv m) page false
   touch_good s page u m held now =
       let q = sm s (Touch page (Ok u)) m now in

@@ -14,14 +14,13 @@ use Rattle.cmm_io.specs.DiskCall.{DiskCall}
 use Rattle.cmm_io.specs.DiskState.{DiskState, DiskStep, disk_view}
 use Rattle.cmm_io.specs.DiskView.{DiskView, DiskFollows}
 use Rattle.essa_state.specs.declared.fields.Fields.{Fields}
-use Rattle.essa_state.specs.StateWord.{is_resident}
+use Rattle.essa_state.specs.StateWord.{is_resident, opening_word}
 use Rattle.essa_state.specs.PageValue.{PageValue, MayBecome, is_lost, may_lose}
 use Rattle.cmm_storage.specs.StorageCall.{StorageCall}
 use Rattle.cmm_storage.specs.StorageView.{StorageView, Follows}
 use Rattle.cmm_storage.specs.Program.{Does}
-use Rattle.cmm_storage.specs.Views.{Seen, does_seen, page_of}
-use Rattle.host_plain.specs.MemoryState.{opening_word}
-use Rattle.host_plain.specs.HostState.{HostState, HostStep, Leaves, host_view, host_word, served, value_of, pages_of, start_of}
+use Rattle.cmm_storage.specs.Views.{Seen, does_seen, page_called}
+use Rattle.host_plain.specs.HostState.{HostState, HostStep, Leaves, host_view, host_word, served, value_of, pages_of, first_place}
 use Rattle.guest_rules.specs.GuestState.{GuestState, opening_guest, processor_at}
 use Rattle.guest_rules.specs.Turns.{turn}
 use Rattle.guest_rules.specs.Fit.{Fit}
@@ -33,7 +32,7 @@ use Rattle.cmm_world.specs.WorldState.{WorldState, guest_at, disk_at, no_plan}
 use Rattle.cmm_world.specs.WorldFit.{IsWorld, view_of}
 use Rattle.cmm_world.specs.Run.{turn_step, turned}
 use Rattle.cmm_world.specs.Steps.{NoWrongDiscards}
-use Rattle.cmm_world.specs.Reached.{HasReached, WasReached, Enters, word_in}
+use Rattle.cmm_world.specs.Reached.{HasReached, WasReached, Enters, world_word}
 use Rattle.cmm_world.proofs.ExecRuns.{does_exec}
 use Rattle.cmm_world.proofs.Carried.{carried}
 use Rattle.cmm_world.proofs.Failures.{PlansKept, plans_kept, failures_fit, counted_turn}
@@ -96,16 +95,16 @@ HasReached-then w m x same later = record {
 }
 
 -- the word of the served guest's page stands in the list of its words
-word_in-host : (w : WorldState) (page : ℕ) → page < pages_of w.host w.host.guest → word_in w w.host.guest page ≡ host_word w.host page
+word_in-host : (w : WorldState) (page : ℕ) → page < pages_of w.host w.host.guest → world_word w w.host.guest page ≡ host_word w.host page
 word_in-host w page below =
-    get_or-take (pages_of w.host w.host.guest) (drop (start_of w.host w.host.guest) w.host.memory.words) page opening_word below
-    ∙ get_or-drop (start_of w.host w.host.guest) w.host.memory.words page opening_word
+    get_or-take (pages_of w.host w.host.guest) (drop (first_place w.host w.host.guest) w.host.memory.words) page opening_word below
+    ∙ get_or-drop (first_place w.host w.host.guest) w.host.memory.words page opening_word
 
 was_reached : (w : WorldState) (guest process number off : ℕ) (writes : Bool) → w.host.guest ≡ guest → IsLocated (guest_at w guest).parts process number off writes w.host
     → WasReached w guest process number off writes
 was_reached w guest process number off writes serves x =
-    let word : word_in w guest x.pte.page ≡ host_word w.host x.pte.page =
-    subst (λ q. word_in w q x.pte.page ≡ host_word w.host x.pte.page) serves (word_in-host w x.pte.page x.reached.below) in
+    let word : world_word w guest x.pte.page ≡ host_word w.host x.pte.page =
+    subst (λ q. world_word w q x.pte.page ≡ host_word w.host x.pte.page) serves (word_in-host w x.pte.page x.reached.below) in
     record {
       slot = x.slot;
       pte = x.pte;
@@ -153,7 +152,7 @@ module _ {S D : Type 0} (ss : S → StorageCall → S → Type 0) (ds : D → Di
     (dm : (d : D) (call : DiskCall) (e : D) → ds d call e → DiskStep (dv d) call (dv e))
     (sf : (s : S) (call : StorageCall) (t : S) → ss s call t → Follows (host_view (sv s)) call (host_view (sv t)))
     (df : (d : D) (call : DiskCall) (e : D) → ds d call e → DiskFollows (disk_view (dv d)) call (disk_view (dv e)))
-    (sl : (s : S) (call : StorageCall) (t : S) → ss s call t → Leaves (sv s) (page_of call) (sv t)) where
+    (sl : (s : S) (call : StorageCall) (t : S) → ss s call t → Leaves (sv s) (page_called call) (sv t)) where
   seen : (g : GuestState) (cpu : ℕ) (s : S) (d : D) (h : GuestState) (r : Turn) (t : S) (e : D) → Does ss ds (turn g cpu) s d (h, r) t e
       → Seen {A = GuestState × Turn} (turn g cpu) (host_view (sv s)) (disk_view (dv d)) (h, r) (host_view (sv t)) (disk_view (dv e))
   seen g cpu s d h r t e run = does_seen ss ds (λ q. host_view (sv q)) (λ q. disk_view (dv q)) sf df (turn g cpu) s d (h, r) t e run
@@ -161,7 +160,7 @@ module _ {S D : Type 0} (ss : S → StorageCall → S → Type 0) (ds : D → Di
   keeps : (g : GuestState) (cpu : ℕ) (s : S) (d : D) (h : GuestState) (r : Turn) (t : S) (e : D) → Does ss ds (turn g cpu) s d (h, r) t e → KeepsOthers (sv s) (sv t)
   keeps g cpu s d h r t e run =
       carried ss ds (λ s t. KeepsOthers (sv s) (sv t)) (λ s t same. KeepsOthers-same (sv s) (sv t) (ap sv same)) (λ s m t. KeepsOthers-trans (sv s) (sv m) (sv t))
-      (λ s call t q. keeps_others (sv s) (page_of call) (sv t) (sl s call t q)) (turn g cpu) s d (h, r) t e run
+      (λ s call t q. keeps_others (sv s) (page_called call) (sv t) (sl s call t q)) (turn g cpu) s d (h, r) t e run
 
   -- the page of a load or a store that the guest's turn entered
   turn_reached : (w : WorldState) (guest cpu : ℕ) (s : S) (d : D) (h : GuestState) (r : Turn) (t : S) (e : D) (op : Op) (number off : ℕ) (writes : Bool) (entry : Entry) → guest < length w.guests

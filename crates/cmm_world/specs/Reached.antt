@@ -7,8 +7,7 @@ use Rattle.cmm_types.specs.declared.command.Reply.TheVariants.{Done, Bytes}
 use Rattle.cmm_types.specs.declared.command.Entry.{Entry}
 use Rattle.cmm_flat.specs.Legal.{process_of}
 use Rattle.essa_state.specs.declared.fields.Fields.{Fields}
-use Rattle.essa_state.specs.StateWord.{is_resident}
-use Rattle.host_plain.specs.MemoryState.{opening_word}
+use Rattle.essa_state.specs.StateWord.{is_resident, opening_word}
 use Rattle.guest_maps.specs.declared.slot.Pte.{Pte}
 use Rattle.guest_maps.specs.MapsView.{find_slot, entry_at}
 use Rattle.cmm_world.specs.WorldState.{WorldState, guest_at}
@@ -16,8 +15,8 @@ use Rattle.cmm_world.specs.WorldView.{words_in}
 use Rattle.cmm_world.specs.Run.{world_step}
 
 -- the state word of a guest's page
-abbrev pub word_in : WorldState → (guest page : ℕ) → Fields
-word_in w guest page = slice_index_or (words_in w guest) page opening_word
+abbrev pub world_word : WorldState → (guest page : ℕ) → Fields
+world_word w guest page = slice_index_or (words_in w guest) page opening_word
 
 -- an entry shows a page at this offset of a process's mapping, and that page's word is resident, with its reference bit set, and where the
 -- page was stored to, with its change bit set
@@ -26,9 +25,9 @@ pub record WasReached (w : WorldState) (guest process number off : ℕ) (writes 
   pub pte : Pte
   pub found : find_slot (guest_at w guest).parts.maps process number ≡ Some slot
   pub entry : entry_at (guest_at w guest).parts.maps slot (off / PAGE) ≡ Some pte
-  pub resident : is_resident (word_in w guest pte.page).content ≡ true
-  pub referenced : (word_in w guest pte.page).referenced ≡ true
-  pub changed : writes ≡ true → (word_in w guest pte.page).changed ≡ true
+  pub resident : is_resident (world_word w guest pte.page).content ≡ true
+  pub referenced : (world_word w guest pte.page).referenced ≡ true
+  pub changed : writes ≡ true → (world_word w guest pte.page).changed ≡ true
 
 -- a guest's journal got this entry
 abbrev pub Enters : (w x : WorldState) → (guest : ℕ) → Entry → Type 0

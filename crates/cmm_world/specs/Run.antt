@@ -47,15 +47,15 @@ turns_after (suc left) turns w guest cpu =
 abbrev pub alone_step : WorldState → (guest cpu : ℕ) → AloneOutcome × WorldState
 alone_step w guest cpu = turns_after most_turns 0 w guest cpu
 
-abbrev pub move_answer : Result Unit ApplyError → Answer
-move_answer (Ok made) = HostDone
-move_answer (Err (Refused why)) = HostRefused why
-move_answer (Err Paging) = HostPaging
+abbrev pub applied_answer : Result Unit ApplyError → Answer
+applied_answer (Ok made) = HostDone
+applied_answer (Err (Refused why)) = HostRefused why
+applied_answer (Err Paging) = HostPaging
 
 unfoldable pub world_step : WorldState → Event → Answer × WorldState
 world_step w (Cpu guest cpu) = (Turn (turn_step w guest cpu).0, (turn_step w guest cpu).1)
 world_step w (Alone guest cpu) = (AloneAnswer (alone_step w guest cpu).0, (alone_step w guest cpu).1)
-world_step w (Host guest page action) = (move_answer (move_of w.host guest page action).answer, record w { host = after_move w.host guest page action })
+world_step w (Host guest page action) = (applied_answer (move_of w.host guest page action).answer, record w { host = after_move w.host guest page action })
 world_step w (Reclaim count) = (Reclaimed (reclaim_of w.host count).count (reclaim_of w.host count).paging, record w { host = after_reclaim w.host count })
 
 -- the answers of a schedule, and the world after it

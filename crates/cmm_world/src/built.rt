@@ -27,7 +27,7 @@ fn has_built_commands(cpu: &CpuPlan) -> bool
     cpu.commands.as_slice().iter().all(is_built_op)
 }
 
-#[tactic(auto, using(cmm_types::specs::RangeLaws::file_pages_bound))]
+#[tactic(auto, using(cmm_types::specs::Laws::RangeLaws::file_pages_bound))]
 fn is_built_guest(plan: &GuestPlan) -> bool
     requires { GuestInRange plan.now }
     ensures { IsTrue result ↔ GuestIsBuilt plan.now }

@@ -1,8 +1,8 @@
 // The parts of a world before its first event.
 ghost use Rattle.std.specs.Prelude.{◌≡◌, ◌<◌, ◌^◌, map, replicate, All, IfOk};
 ghost use Rattle.cmm_types.specs.InRange.{GuestInRange, ScenarioInRange, guest_pages_of};
-ghost use Rattle.cmm_io.specs.FailurePlan.{plan_of};
-ghost use Rattle.cmm_storage.specs.StorageView.{zeros};
+ghost use Rattle.cmm_io.specs.FailurePlan.{failure_plan_of};
+ghost use Rattle.cmm_types.specs.Bytes.{zero_page};
 ghost use Rattle.guest_rules.specs.Built.{GuestIsBuilt};
 ghost use Rattle.guest_rules.specs.GuestState.{opening_guest};
 ghost use Rattle.cmm_world.specs.WorldState.{opening_disk, opening_host};
@@ -28,7 +28,7 @@ pub fn open_guests(alloc: Global, plans: &[GuestPlan]) -> Result<Vec<Guest>, All
 }
 
 // A guest's disk before its first call.
-#[tactic(auto, using(cmm_types::specs::RangeLaws::blocks_bound))]
+#[tactic(auto, using(cmm_types::specs::Laws::RangeLaws::blocks_bound))]
 fn open_disk(alloc: Global, plan: &GuestPlan) -> Result<MemDisk, AllocError>
     requires { GuestInRange plan.now }
     ensures { IfOk result (λ disk. disk ≡ opening_disk plan.now) }
@@ -76,7 +76,7 @@ fn pages_in_all(plans: &[GuestPlan]) -> u32
 }
 
 fn open_pagers(alloc: Global, plans: &[GuestPlan]) -> Result<Vec<MemPager>, AllocError>
-    ensures { IfOk result (λ pagers. pagers.items ≡ map (λ guest. plan_of guest.pager_fail) plans.now) }
+    ensures { IfOk result (λ pagers. pagers.items ≡ map (λ guest. failure_plan_of guest.pager_fail) plans.now) }
 {
     let mut pagers = Vec::with_capacity(alloc, plans.len())?;
     for plan in plans {
@@ -86,7 +86,7 @@ fn open_pagers(alloc: Global, plans: &[GuestPlan]) -> Result<Vec<MemPager>, Allo
 }
 
 fn open_blocks(alloc: Global, count: usize) -> Result<Vec<MemBlock>, AllocError>
-    ensures { IfOk result (λ blocks. blocks.items ≡ replicate count zeros) }
+    ensures { IfOk result (λ blocks. blocks.items ≡ replicate count zero_page) }
 {
     let mut blocks = Vec::with_capacity(alloc, count)?;
     for _ in 0..count {

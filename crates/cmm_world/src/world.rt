@@ -6,8 +6,9 @@ ghost use Rattle.cmm_types.specs.InRange.{EventInRange, ScenarioInRange};
 ghost use Rattle.cmm_world.specs.Built.{IsBuilt};
 ghost use Rattle.cmm_world.specs.WorldState.{WorldState, guest_at, disk_at};
 ghost use Rattle.cmm_world.specs.WorldView.{WorldView, opening_view, plans_of, words_in};
-ghost use Rattle.cmm_world.specs.WorldFit.{KeepsWorld};
-ghost use Rattle.cmm_world.specs.Run.{move_answer, answers_of, world_after};
+ghost use Rattle.cmm_world.specs.WorldFit.{WorldFit, KeepsWorld};
+ghost use Rattle.cmm_world.specs.Failures.{WorldCounted};
+ghost use Rattle.cmm_world.specs.Run.{applied_answer, answers_of, world_after};
 ghost use Rattle.cmm_world.specs.Steps.{IsStepByStep, AtEach};
 ghost use Rattle.cmm_world.specs.Reached.{ReachesPages};
 ghost use Rattle.cmm_world.specs.Played.{PlaysEvent};
@@ -45,8 +46,8 @@ impl Model for World {
     ghost invariant = { λ w. IsWorld (record { guests = w.guests.items; disks = w.disks.items; host = w.host }) × (w.events ≤ vec_capacity w.answers) };
 }
 
-fn move_answer(made: Result<(), ApplyError>) -> Answer
-    ensures { result ≡ move_answer made }
+fn applied_answer(made: Result<(), ApplyError>) -> Answer
+    ensures { result ≡ applied_answer made }
 {
     match made {
         Ok(()) => Answer::HostDone,
@@ -60,7 +61,9 @@ impl World {
     pub fn open(alloc: Global, plan: &Scenario) -> Result<World, AllocError>
         requires range { ScenarioInRange plan.now }
         requires built { IsBuilt plan.now }
-        ensures { IfOk result (λ world. world ≡ opening_view plan.now) }
+        ensures opening { IfOk result (λ world. world ≡ opening_view plan.now) }
+        ensures fit { IfOk result (λ world. WorldFit world.state) }
+        ensures failures { IfOk result (λ world. WorldCounted world.state) }
     {
         let guests = open_guests(alloc, plan.guests.as_slice())?;
         let disks = open_disks(alloc, plan.guests.as_slice())?;
@@ -143,7 +146,7 @@ impl World {
         requires { EventInRange (plans_of self.old.state) (HostEvent guest page action) }
         ensures { PlaysEvent self.old (HostEvent guest page action) result self.new }
     {
-        move_answer(self.host.apply(guest, page, action))
+        applied_answer(self.host.apply(guest, page, action))
     }
 
     fn reclaim(&mut self, count: u32) -> Answer

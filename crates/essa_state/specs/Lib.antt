@@ -1,9 +1,7 @@
 pub mod StateWord
 pub mod Layout
-pub mod LayoutLaws
 pub mod Orders
-pub mod WordLaws
 pub mod Moves
 pub mod PageValue
 pub mod PageBody
-pub mod PageValueLaws
+pub mod Laws

@@ -7,7 +7,7 @@ use Rattle.cmm_types.specs.declared.page.Refused.{Refused}
 use Rattle.cmm_types.specs.declared.page.Refused.TheVariants.{Stable, Changed, Absent, Volatile, Counted}
 use Rattle.essa_state.specs.declared.fields.TheConstants.{LAST_COUNT}
 use Rattle.essa_state.specs.declared.fields.Fields.{Fields}
-use Rattle.essa_state.specs.StateWord.{is_stable, is_unused, is_volatile, is_potential, is_fully_volatile, is_resident, is_preserved, is_zero}
+use Rattle.essa_state.specs.StateWord.{is_stable, is_unused, is_discardable, is_potential, is_fully_volatile, is_resident, is_preserved, is_zero}
 
 abbrev pub discarded : Fields → Fields
 discarded w = record w { content = Zero; referenced = false; changed = false; count = if is_unused w.usage then w.count else w.count + 1 }
@@ -27,7 +27,7 @@ discard_answer w =
     if is_stable w.usage then Err Stable
     else if is_potential w.usage && w.changed then Err Changed
     else if is_zero w.content then Err Absent
-    else if is_volatile w.usage && not (nat_lt w.count LAST_COUNT) then Err Counted
+    else if is_discardable w.usage && not (nat_lt w.count LAST_COUNT) then Err Counted
     else Ok (discarded w)
 
 -- a page that may be discarded isn't preserved, but for a potentially volatile one, and for any at the last count

@@ -8,11 +8,11 @@ use Rattle.essa_state.specs.declared.fields.TheConstants.{LAST_COUNT}
 use Rattle.essa_state.specs.declared.fields.Fields.{Fields}
 use Rattle.essa_state.specs.declared.orders.Order.{Order}
 use Rattle.essa_state.specs.declared.orders.Order.TheVariants.{Get, SetStable, SetUnused, SetVolatile, SetPotential, SetStableResident, SetStableIf}
-use Rattle.essa_state.specs.StateWord.{is_zero, is_volatile, is_discarded}
+use Rattle.essa_state.specs.StateWord.{is_zero, is_discardable, is_discarded}
 
 -- zero content that the guest still counts on: to let such a page go is a discard
 abbrev pub is_blank_word : Fields → Bool
-is_blank_word w = is_zero w.content && not (is_volatile w.usage)
+is_blank_word w = is_zero w.content && not (is_discardable w.usage)
 
 -- a discard is counted, and there is none at the last count
 abbrev pub can_let_go : Fields → Bool

@@ -7,7 +7,7 @@ use Rattle.cmm_types.specs.declared.page.Move.{Move}
 use Rattle.cmm_types.specs.declared.page.Move.TheVariants.{Discard, Preserve, Bring, Age}
 use Rattle.cmm_types.specs.declared.page.Refused.{Refused}
 use Rattle.essa_state.specs.declared.fields.Fields.{Fields}
-use Rattle.essa_state.specs.StateWord.{is_resident, is_volatile}
+use Rattle.essa_state.specs.StateWord.{is_resident, is_discardable}
 use Rattle.essa_state.specs.Moves.{move_answer}
 use Rattle.essa_state.specs.PageValue.{PageValue, Contents, Bytes, Blank, Lost}
 
@@ -33,7 +33,7 @@ abbrev pub actual : Fields → Body → PageValue
 actual w body = record {
   usage = w.usage;
   changed = w.changed;
-  contents = actual_contents w.content (is_volatile w.usage) body;
+  contents = actual_contents w.content (is_discardable w.usage) body;
   count = w.count;
 }
 

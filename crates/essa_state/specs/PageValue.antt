@@ -5,7 +5,7 @@ use Rattle.cmm_types.specs.declared.page.Usage.TheVariants.{S, U, P, V}
 use Rattle.essa_state.specs.declared.fields.TheConstants.{LAST_COUNT}
 use Rattle.essa_state.specs.declared.orders.Order.{Order}
 use Rattle.essa_state.specs.declared.orders.Order.TheVariants.{Get, SetStable, SetUnused, SetVolatile, SetPotential, SetStableResident, SetStableIf}
-use Rattle.essa_state.specs.StateWord.{is_volatile}
+use Rattle.essa_state.specs.StateWord.{is_discardable}
 
 -- blank contents read as zeros; lost ones can't be read
 pub data Contents : Type 0 where
@@ -18,6 +18,10 @@ pub record PageValue : Type 0 where
   pub changed : Bool
   pub contents : Contents
   pub count : ℕ
+
+-- unused, without contents, and never discarded
+abbrev pub opening_value : PageValue
+opening_value = record { usage = U; changed = false; contents = Blank; count = 0 }
 
 abbrev pub is_blank : Contents → Bool
 is_blank (Bytes bytes) = false
@@ -33,8 +37,8 @@ is_lost Lost = true
 -- only with one that isn't changed
 abbrev pub StandsWith : Contents → Usage → Bool → Type 0
 StandsWith (Bytes bytes) usage changed = Unit {0}
-StandsWith Blank usage changed = (is_volatile usage ≡ false) × (changed ≡ false)
-StandsWith Lost usage changed = (is_volatile usage ≡ true) × (changed ≡ false)
+StandsWith Blank usage changed = (is_discardable usage ≡ false) × (changed ≡ false)
+StandsWith Lost usage changed = (is_discardable usage ≡ true) × (changed ≡ false)
 
 abbrev pub IsValue : PageValue → Type 0
 IsValue v = StandsWith v.contents v.usage v.changed

@@ -32,12 +32,16 @@ is_fully_volatile U = false
 is_fully_volatile P = false
 is_fully_volatile V = true
 
+-- unused, without contents, and never discarded: the word of every page at the start
+abbrev pub opening_word : Fields
+opening_word = record { usage = U; content = Zero; referenced = false; changed = false; busy = false; count = 0 }
+
 -- volatile or potentially volatile: the guest could fetch the contents again
-abbrev pub is_volatile : Usage → Bool
-is_volatile S = false
-is_volatile U = false
-is_volatile P = true
-is_volatile V = true
+abbrev pub is_discardable : Usage → Bool
+is_discardable S = false
+is_discardable U = false
+is_discardable P = true
+is_discardable V = true
 
 abbrev pub is_resident : Content → Bool
 is_resident Resident = true
@@ -73,7 +77,7 @@ is_permitted w =
 
 -- the contents are lost, and the guest doesn't know it yet
 abbrev pub is_discarded : Fields → Bool
-is_discarded w = is_zero w.content && is_volatile w.usage
+is_discarded w = is_zero w.content && is_discardable w.usage
 
 abbrev pub usage_code : Usage → ℕ
 usage_code S = 0

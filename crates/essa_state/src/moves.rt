@@ -87,7 +87,7 @@ fn moved(fields: Fields, action: Move) -> Result<Fields, Refused>
 }
 
 /// The word after the move. A refusal comes by the first reason that fits, and changes nothing.
-#[tactic(auto, using(crate::specs::WordLaws::moved_permitted))]
+#[tactic(auto, using(crate::specs::Laws::WordLaws::moved_permitted))]
 pub fn host_move(word: Word, action: Move) -> Result<Word, Refused>
     ensures answer { result ≡ move_answer word action }
 

@@ -12,7 +12,7 @@ use Rattle.atomic_table.proofs.Lists.{at_set, at_snoc, set_else, set_here, excha
 use Rattle.page_arena.specs.FrameView.{RegionView, FrameView}
 use Rattle.frame_pool.specs.Totals.{total}
 use Rattle.frame_pool.specs.PoolRule.{named_once, names, lent_once, lent, IsFrameOf, WordFits, SlotFits, RegionFits, NamedFits, PoolRule}
-use Rattle.frame_pool.specs.Plays.{Seated, naming, recorded, spent_view, returning, noted, dried, taking, run_with, after, counted, looked, claimed, named_lent, word_of, lends, fetches, returns, second_of, paired, compared}
+use Rattle.frame_pool.specs.Plays.{PoolSeated, naming, recorded, spent_view, returning, found_out_at, dried, taking, run_with, next_round, spare_counted, looked, claimed, named_lent, named_word, lends, fetches, returns, second_of, paired, compared}
 use Rattle.frame_pool.specs.declared.view.PoolView.{PoolView}
 use Rattle.frame_pool.specs.declared.view.Named.{Named}
 use Rattle.frame_pool.specs.declared.view.Named.TheVariants.{Idle, Taken, Lent, Pair, Spent}
@@ -21,24 +21,24 @@ use Rattle.frame_pool.proofs.Changes.{St, state, changed, reviewed, viewed, same
 use Rattle.frame_pool.proofs.Spare.{lent_as, lends_word, lent_is_named, named_most, some_spare}
 
 -- what a step owes: the seat's new view and its act keep the rule, and the step tells `then`
-abbrev Goes : RegionView → St → ℕ → ℕ → Seated → (ℕ → Seated → Type 0) → ℕ → Type 0
+abbrev Goes : RegionView → St → ℕ → ℕ → PoolSeated → (ℕ → PoolSeated → Type 0) → ℕ → Type 0
 Goes region s k id m then x = (w : PoolView) × (a : Act (Option FrameView)) × Valid s.homes m.1 a × PoolRule region (stepped s k x id m.1 w a) × then (get_or s.words k 0) (w, carried_after m.1 a)
 
-noted_region : (n i : ℕ) (v : PoolView) → (noted n i v).region ≡ v.region
-noted_region n i v = elim (nat_lt (run_with v i) n) as (λ b. (cond b (recorded v (run_with v i) (after n i) v.dry) (recorded v 0 (after n i) (v.dry + 1))).region ≡ v.region) [
+noted_region : (n i : ℕ) (v : PoolView) → (found_out_at n i v).region ≡ v.region
+noted_region n i v = elim (nat_lt (run_with v i) n) as (λ b. (cond b (recorded v (run_with v i) (next_round n i) v.dry) (recorded v 0 (next_round n i) (v.dry + 1))).region ≡ v.region) [
   | true ↦ refl
   | false ↦ refl
 ]
 
-noted_named : (n i : ℕ) (v : PoolView) → (noted n i v).named ≡ v.named
-noted_named n i v = elim (nat_lt (run_with v i) n) as (λ b. (cond b (recorded v (run_with v i) (after n i) v.dry) (recorded v 0 (after n i) (v.dry + 1))).named ≡ v.named) [
+noted_named : (n i : ℕ) (v : PoolView) → (found_out_at n i v).named ≡ v.named
+noted_named n i v = elim (nat_lt (run_with v i) n) as (λ b. (cond b (recorded v (run_with v i) (next_round n i) v.dry) (recorded v 0 (next_round n i) (v.dry + 1))).named ≡ v.named) [
   | true ↦ refl
   | false ↦ refl
 ]
 
 module _ (region : RegionView) (n id : ℕ) where
   -- a load of the spare count
-  pub counts : (m : Seated) (k : ℕ) → k ≡ n → Allows (PoolRule region) n id m k (λ x. x) (counted (step n k 0 0 none) m)
+  pub counts : (m : PoolSeated) (k : ℕ) → k ≡ n → Allows (PoolRule region) n id m k (λ x. x) (spare_counted (step n k 0 0 none) m)
   counts m k spare s r wide at small =
       let x : ℕ = get_or s.words k 0 in
       dite (ℕ_discrete x 0)
@@ -46,15 +46,15 @@ module _ (region : RegionView) (n id : ℕ) where
       (λ ne. (m.0, keeps, tt, viewed region s r k id m.0 m.0 at refl refl, (spare, (λ e. absurd (ne e)), λ _. refl)))
 
   -- a load of a frame word
-  pub looks : (m : Seated) (k : ℕ) → k < n → Allows (PoolRule region) n id m k (λ x. x) (looked (step n k 0 0 none) m)
+  pub looks : (m : PoolSeated) (k : ℕ) → k < n → Allows (PoolRule region) n id m k (λ x. x) (looked (step n k 0 0 none) m)
   looks m k near s r wide at small =
       let x : ℕ = get_or s.words k 0 in
       dite (ℕ_discrete x 0)
       (λ e. (m.0, keeps, tt, viewed region s r k id m.0 m.0 at refl refl, (near, (λ _. refl), λ ne. absurd (ne e))))
-      (λ ne. (noted n k m.0, keeps, tt, viewed region s r k id m.0 (noted n k m.0) at (noted_region n k m.0) (noted_named n k m.0), (near, (λ e. absurd (ne e)), λ _. refl)))
+      (λ ne. (found_out_at n k m.0, keeps, tt, viewed region s r k id m.0 (found_out_at n k m.0) at (noted_region n k m.0) (noted_named n k m.0), (near, (λ e. absurd (ne e)), λ _. refl)))
 
   -- a compare and exchange of a frame word from in to out
-  pub claims : (m : Seated) (i : ℕ) → i < n → m.0.named ≡ Idle → Allows (PoolRule region) n id m i (λ x. either (eqb x 0) 1 x) (claimed (step n i 0 1 none) m)
+  pub claims : (m : PoolSeated) (i : ℕ) → i < n → m.0.named ≡ Idle → Allows (PoolRule region) n id m i (λ x. either (eqb x 0) 1 x) (claimed (step n i 0 1 none) m)
   claims m i near idle s r wide at small =
       let v : PoolView = m.0 in
       exchanged (get_or s.words i 0) 0 1 (Goes region s i id m (claimed (step n i 0 1 none) m))
@@ -77,7 +77,7 @@ module _ (region : RegionView) (n id : ℕ) where
             (own, (below, set_here s.homes i none below)),
         (near, (λ _. (f, refl, (fits.1.2.0 ∙ sym own, fits.1.2.1))), λ ne. absurd (ne hit)),
       ))
-      (λ miss. (noted n i v, keeps, tt, viewed region s r i id v (noted n i v) at (noted_region n i v) (noted_named n i v), (near, (λ e. absurd (miss e)), λ _. refl)))
+      (λ miss. (found_out_at n i v, keeps, tt, viewed region s r i id v (found_out_at n i v) at (noted_region n i v) (noted_named n i v), (near, (λ e. absurd (miss e)), λ _. refl)))
 
   -- the one view that names a word that is out
   sole : (s : St) (r : PoolRule region s) (i : ℕ) (v : PoolView) → get_elem? s.views id ≡ some v → i < length s.homes → names i v ≡ 1 → (get_or s.words i 0 ≡ 1) × (total (names i) s.views ≡ 1)
@@ -88,9 +88,9 @@ module _ (region : RegionView) (n id : ℕ) where
     go (suc (suc x)) fits = absurd fits
 
   -- the slot goes home empty, and the frame is no longer spare
-  pub lends_step : (m : Seated) (v : PoolView) (i : ℕ) → i < n → m ≡ (v, (i, None) ∷ []) → v.named ≡ Taken i
+  pub lends_step : (m : PoolSeated) (v : PoolView) (i : ℕ) → i < n → m ≡ (v, (i, None) ∷ []) → v.named ≡ Taken i
       → Allows (PoolRule region) n id m n (λ x. (x + (2 ^ 64 - 1)) % 2 ^ 64) (lends (step n n 1 0 none) m)
-  lends_step m v i near is taken = subst (λ (m : Seated). Allows (PoolRule region) n id m n (λ x. (x + (2 ^ 64 - 1)) % 2 ^ 64) (lends (step n n 1 0 none) m)) (sym is) (λ s r wide at small.
+  lends_step m v i near is taken = subst (λ (m : PoolSeated). Allows (PoolRule region) n id m n (λ x. (x + (2 ^ 64 - 1)) % 2 ^ 64) (lends (step n n 1 0 none) m)) (sym is) (λ s r wide at small.
       let below : i < length s.homes = subst (λ (x : ℕ). i < x) (sym wide) near in
       let one : names i v ≡ 1 = ap (named_once i) taken ∙ only-same i i refl in
       let here = sole s r i v at below one in
@@ -127,15 +127,15 @@ module _ (region : RegionView) (n id : ℕ) where
         )
 
   -- the empty slot is taken again, and the frame is spare
-  pub fetches_step : (m : Seated) (v : PoolView) (i : ℕ) → n < 2 ^ 64 → i < n → m ≡ (v, []) → v.named ≡ Lent i
+  pub fetches_step : (m : PoolSeated) (v : PoolView) (i : ℕ) → n < 2 ^ 64 → i < n → m ≡ (v, []) → v.named ≡ Lent i
       → Allows (PoolRule region) n id m n (λ x. (x + 1) % 2 ^ 64) (fetches (step n n 1 0 none) m)
-  fetches_step m v i bound near is gone = subst (λ (m : Seated). Allows (PoolRule region) n id m n (λ x. (x + 1) % 2 ^ 64) (fetches (step n n 1 0 none) m)) (sym is) (λ s r wide at small.
+  fetches_step m v i bound near is gone = subst (λ (m : PoolSeated). Allows (PoolRule region) n id m n (λ x. (x + 1) % 2 ^ 64) (fetches (step n n 1 0 none) m)) (sym is) (λ s r wide at small.
       let below : i < length s.homes = subst (λ (x : ℕ). i < x) (sym wide) near in
       let one : names i v ≡ 1 = ap (named_once i) gone ∙ only-same i i refl in
       let here = sole s r i v at below one in
       let fits : SlotFits s.homes (length s.homes) (Lent i) = subst (SlotFits s.homes (length s.homes)) gone (r.each_view id v at).1 in
-      let k : ℕ = word_of v.named in
-      let word : k ≡ i = ap word_of gone in
+      let k : ℕ = named_word v.named in
+      let word : k ≡ i = ap named_word gone in
       let w : PoolView = naming v (Taken k) in
       let x : ℕ = get_or s.words n 0 in
       let count : get_or s.words (length s.homes) 0 ≡ x = ap (λ (j : ℕ). get_or s.words j 0) wide in
@@ -158,9 +158,9 @@ module _ (region : RegionView) (n id : ℕ) where
       ))
 
   -- the slot goes home with its frame, and the word is in
-  pub returns_step : (m : Seated) (v : PoolView) (i : ℕ) (f : FrameView) → i < n → m ≡ (v, (i, Some f) ∷ []) → v.named ≡ Taken i → IsFrameOf v.region i f
+  pub returns_step : (m : PoolSeated) (v : PoolView) (i : ℕ) (f : FrameView) → i < n → m ≡ (v, (i, Some f) ∷ []) → v.named ≡ Taken i → IsFrameOf v.region i f
       → Allows (PoolRule region) n id m i (λ _. 0) (λ _. returns (step n i 0 0 none) m 0)
-  returns_step m v i f near is taken frame = subst (λ (m : Seated). Allows (PoolRule region) n id m i (λ _. 0) (λ _. returns (step n i 0 0 none) m 0)) (sym is) (λ s r wide at small.
+  returns_step m v i f near is taken frame = subst (λ (m : PoolSeated). Allows (PoolRule region) n id m i (λ _. 0) (λ _. returns (step n i 0 0 none) m 0)) (sym is) (λ s r wide at small.
       let below : i < length s.homes = subst (λ (x : ℕ). i < x) (sym wide) near in
       let one : names i v ≡ 1 = ap (named_once i) taken ∙ only-same i i refl in
       let here = sole s r i v at below one in
@@ -217,7 +217,7 @@ module _ (region : RegionView) (n id : ℕ) where
   pairs v other u i k one two s r at apart them =
       let spent : PoolView = spent_view in
       let w : PoolView = paired v u in
-      let now : w.named ≡ Pair i k = λ j. Pair (ap word_of one j) (ap word_of two j) in
+      let now : w.named ≡ Pair i k = λ j. Pair (ap named_word one j) (ap named_word two j) in
       let vs : List PoolView = set s.views id w in
       let there : get_elem? s.views other ≡ some u = sym (set_else s.views id other w apart) ∙ them in
       let first = subst (NamedFits region s.homes v.region) one (r.each_view id v at) in
@@ -231,11 +231,11 @@ module _ (region : RegionView) (n id : ℕ) where
       (λ (q : (j ≢ id) × (get_elem? s.views j ≡ some x)). r.each_view j x q.1) (at_set s.views id j w x t.1)) (at_set vs other j spent x e))
 
   -- and two again
-  pub parts : (v : PoolView) (i k : ℕ) → v.named ≡ Pair i k → Splits (PoolRule region) id v (naming v (Lent (word_of v.named))) (naming v (Lent (second_of v.named)))
+  pub parts : (v : PoolView) (i k : ℕ) → v.named ≡ Pair i k → Splits (PoolRule region) id v (naming v (Lent (named_word v.named))) (naming v (Lent (second_of v.named)))
   parts v i k is s r at =
-      let left : PoolView = naming v (Lent (word_of v.named)) in
+      let left : PoolView = naming v (Lent (named_word v.named)) in
       let right : PoolView = naming v (Lent (second_of v.named)) in
-      let one : left.named ≡ Lent i = ap (λ (d : Named). Lent (word_of d)) is in
+      let one : left.named ≡ Lent i = ap (λ (d : Named). Lent (named_word d)) is in
       let two : right.named ≡ Lent k = ap (λ (d : Named). Lent (second_of d)) is in
       let both = subst (NamedFits region s.homes v.region) is (r.each_view id v at) in
       let first = subst (NamedFits region s.homes v.region) (sym one) (both.0, both.1.0) in
@@ -249,8 +249,8 @@ module _ (region : RegionView) (n id : ℕ) where
       (λ (t : right ≡ x). subst (λ (y : PoolView). NamedFits region s.homes y.region y.named) t second) (at_snoc vs right x j e))
 
   -- a seat that names two words names different ones
-  pub compares : (m : Seated) (v : PoolView) (i k c : ℕ) → m ≡ (v, []) → v.named ≡ Pair i k → Allows (PoolRule region) n id m c (λ x. x) (compared (step n c 0 0 none) m)
-  compares m v i k c is named = subst (λ (m : Seated). Allows (PoolRule region) n id m c (λ x. x) (compared (step n c 0 0 none) m)) (sym is) (λ s r wide at small.
+  pub compares : (m : PoolSeated) (v : PoolView) (i k c : ℕ) → m ≡ (v, []) → v.named ≡ Pair i k → Allows (PoolRule region) n id m c (λ x. x) (compared (step n c 0 0 none) m)
+  compares m v i k c is named = subst (λ (m : PoolSeated). Allows (PoolRule region) n id m c (λ x. x) (compared (step n c 0 0 none) m)) (sym is) (λ s r wide at small.
       let both = subst (NamedFits region s.homes v.region) named (r.each_view id v at) in (
         v,
         keeps,
@@ -259,7 +259,7 @@ module _ (region : RegionView) (n id : ℕ) where
         (
           refl,
           λ e.
-              let same : i ≡ k = sym (ap word_of named) ∙ (e ∙ ap second_of named) in
+              let same : i ≡ k = sym (ap named_word named) ∙ (e ∙ ap second_of named) in
               absurd (omega (
                 arith,
                 term_le (names i) s.views id v at,
@@ -273,12 +273,12 @@ module _ (region : RegionView) (n id : ℕ) where
 
 module _ (region : RegionView) (n : ℕ) where
   -- the same at a word that is known to be the spare count
-  pub lends_at : (id k : ℕ) (m : Seated) (v : PoolView) (i : ℕ) → n ≡ k → i < k → m ≡ (v, (i, None) ∷ []) → v.named ≡ Taken i
+  pub lends_at : (id k : ℕ) (m : PoolSeated) (v : PoolView) (i : ℕ) → n ≡ k → i < k → m ≡ (v, (i, None) ∷ []) → v.named ≡ Taken i
       → Allows (PoolRule region) n id m k (λ x. (x + (2 ^ 64 - 1)) % 2 ^ 64) (lends (step n k 1 0 none) m)
   lends_at id k m v i same near is taken = subst (λ (j : ℕ). Allows (PoolRule region) j id m k (λ x. (x + (2 ^ 64 - 1)) % 2 ^ 64) (lends (step j k 1 0 none) m))
       (sym same) (lends_step region k id m v i near is taken)
 
-  pub fetches_at : (id k : ℕ) (m : Seated) (v : PoolView) (i : ℕ) → n ≡ k → k < 2 ^ 64 → i < k → m ≡ (v, []) → v.named ≡ Lent i
+  pub fetches_at : (id k : ℕ) (m : PoolSeated) (v : PoolView) (i : ℕ) → n ≡ k → k < 2 ^ 64 → i < k → m ≡ (v, []) → v.named ≡ Lent i
       → Allows (PoolRule region) n id m k (λ x. (x + 1) % 2 ^ 64) (fetches (step n k 1 0 none) m)
   fetches_at id k m v i same bound near is gone = subst (λ (j : ℕ). Allows (PoolRule region) j id m k (λ x. (x + 1) % 2 ^ 64) (fetches (step j k 1 0 none) m))
       (sym same) (fetches_step region k id m v i bound near is gone)

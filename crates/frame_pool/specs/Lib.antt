@@ -6,4 +6,4 @@ pub mod InOrOut
 pub mod FoundOut
 pub mod Lending
 pub mod Closing
-pub mod PoolLaws
+pub mod Laws

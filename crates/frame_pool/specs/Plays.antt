@@ -7,11 +7,11 @@ use Rattle.frame_pool.specs.declared.view.PoolView.{PoolView}
 use Rattle.frame_pool.specs.declared.view.Named.{Named}
 use Rattle.frame_pool.specs.declared.view.Named.TheVariants.{Idle, Taken, Lent, Pair, Spent}
 
-abbrev pub Seated : Type 0
-Seated = Me (Option FrameView) PoolView
+abbrev pub PoolSeated : Type 0
+PoolSeated = Me (Option FrameView) PoolView
 
 abbrev pub Tells : Type 1
-Tells = Step (Option FrameView) → Seated → ℕ → Seated → Type 0
+Tells = Step (Option FrameView) → PoolSeated → ℕ → PoolSeated → Type 0
 
 abbrev pub view : RegionView → Named → ℕ → ℕ → ℕ → ℕ → ℕ → PoolView
 view region named run next dry taken given = record { region = region; named = named; run = run; next = next; dry = dry; taken = taken; given = given }
@@ -43,16 +43,16 @@ abbrev pub joined : PoolView → PoolView → PoolView
 joined v w = view v.region v.named v.run v.next v.dry (v.taken + w.taken) (v.given + w.given)
 
 -- the word after i, round the end of n words
-abbrev pub after : ℕ → ℕ → ℕ
-after n i = cond (nat_lt (i + 1) n) (i + 1) 0
+abbrev pub next_round : ℕ → ℕ → ℕ
+next_round n i = cond (nat_lt (i + 1) n) (i + 1) 0
 
 -- how long the run is once the word i was found out
 abbrev pub run_with : PoolView → ℕ → ℕ
 run_with v i = cond (i == v.next) (v.run + 1) 1
 
 -- one of n words, i, was found out
-abbrev pub noted : ℕ → ℕ → PoolView → PoolView
-noted n i v = cond (nat_lt (run_with v i) n) (recorded v (run_with v i) (after n i) v.dry) (recorded v 0 (after n i) (v.dry + 1))
+abbrev pub found_out_at : ℕ → ℕ → PoolView → PoolView
+found_out_at n i v = cond (nat_lt (run_with v i) n) (recorded v (run_with v i) (next_round n i) v.dry) (recorded v 0 (next_round n i) (v.dry + 1))
 
 -- all words were found out at once
 abbrev pub dried : PoolView → PoolView
@@ -63,19 +63,19 @@ abbrev pub taking : ℕ → PoolView → PoolView
 taking i v = view v.region (Taken i) 0 v.next v.dry (v.taken + 1) v.given
 
 -- a load of the spare count, the word behind the frame words
-abbrev pub counted : Tells
-counted st m found m' = (st.word ≡ st.slots) × (found ≡ 0 → m' ≡ (dried m.0, m.1)) × (found ≢ 0 → m' ≡ m)
+abbrev pub spare_counted : Tells
+spare_counted st m found m' = (st.word ≡ st.slots) × (found ≡ 0 → m' ≡ (dried m.0, m.1)) × (found ≢ 0 → m' ≡ m)
 
 -- a load of a frame word
 abbrev pub looked : Tells
-looked st m found m' = (st.word < st.slots) × (found ≡ 0 → m' ≡ m) × (found ≢ 0 → m' ≡ (noted st.slots st.word m.0, m.1))
+looked st m found m' = (st.word < st.slots) × (found ≡ 0 → m' ≡ m) × (found ≢ 0 → m' ≡ (found_out_at st.slots st.word m.0, m.1))
 
 -- a compare and exchange of a frame word from in to out
 abbrev pub claimed : Tells
 claimed st m found m' =
     (st.word < st.slots)
     × (found ≡ 0 → (f : FrameView) × (m' ≡ (taking st.word m.0, (st.word, Some f) ∷ m.1)) × IsFrameOf m.0.region st.word f)
-    × (found ≢ 0 → m' ≡ (noted st.slots st.word m.0, m.1))
+    × (found ≢ 0 → m' ≡ (found_out_at st.slots st.word m.0, m.1))
 
 abbrev pub named_lent : Named → Named
 named_lent Idle = Idle
@@ -84,12 +84,12 @@ named_lent (Lent i) = Lent i
 named_lent (Pair i k) = Pair i k
 named_lent Spent = Spent
 
-abbrev pub word_of : Named → ℕ
-word_of Idle = 0
-word_of (Taken i) = i
-word_of (Lent i) = i
-word_of (Pair i k) = i
-word_of Spent = 0
+abbrev pub named_word : Named → ℕ
+named_word Idle = 0
+named_word (Taken i) = i
+named_word (Lent i) = i
+named_word (Pair i k) = i
+named_word Spent = 0
 
 abbrev pub second_of : Named → ℕ
 second_of Idle = 0
@@ -104,7 +104,7 @@ lends st m found m' = m' ≡ (naming m.0 (named_lent m.0.named), rest m.1)
 
 -- the empty slot is taken again, and the frame is spare
 abbrev pub fetches : Tells
-fetches st m found m' = m' ≡ (naming m.0 (Taken (word_of m.0.named)), (word_of m.0.named, None) ∷ m.1)
+fetches st m found m' = m' ≡ (naming m.0 (Taken (named_word m.0.named)), (named_word m.0.named, None) ∷ m.1)
 
 -- the seat that put its frame back
 abbrev pub returning : PoolView → PoolView
@@ -116,8 +116,8 @@ returns st m found m' = (m.0.named ≡ Taken st.word) × (m' ≡ (returning m.0,
 
 -- the seats of two loans are one
 abbrev pub paired : PoolView → PoolView → PoolView
-paired v w = naming v (Pair (word_of v.named) (word_of w.named))
+paired v w = naming v (Pair (named_word v.named) (named_word w.named))
 
 -- a load by a seat that names two words
 abbrev pub compared : Tells
-compared st m found m' = (m' ≡ m) × (word_of m.0.named ≢ second_of m.0.named)
+compared st m found m' = (m' ≡ m) × (named_word m.0.named ≢ second_of m.0.named)

@@ -4,7 +4,7 @@ use Rattle.atomic_table.specs.Seated.{TableId}
 use Rattle.atomic_table.specs.declared.badge.Badge.{Badge}
 use Rattle.page_arena.specs.FrameView.{RegionView, FrameView}
 use Rattle.frame_pool.specs.PoolRule.{IsFrameOf}
-use Rattle.frame_pool.specs.Plays.{Seated, view, spent_view}
+use Rattle.frame_pool.specs.Plays.{PoolSeated, view, spent_view}
 use Rattle.frame_pool.specs.declared.view.PoolView.{PoolView}
 use Rattle.frame_pool.specs.declared.view.Named.TheVariants.{Idle, Taken, Lent}
 
@@ -18,7 +18,7 @@ abbrev pub frame_count : PoolId → ℕ
 frame_count pool = pool.table.slots
 
 -- a seat between two calls
-abbrev pub IsIdle : Seated → Type 0
+abbrev pub IsIdle : PoolSeated → Type 0
 IsIdle m = m ≡ (view m.0.region Idle 0 m.0.next m.0.dry m.0.taken m.0.given, [])
 
 -- a table with a word and a slot for each of n frames, and one word more
@@ -26,18 +26,18 @@ abbrev pub IsWide : TableId → ℕ → Type 0
 IsWide table n = (table.slots ≡ n) × (table.words ≡ n + 1)
 
 -- a seat that has taken the word, with its slot and its frame, since its view was v
-abbrev pub HasTaken : PoolView → ℕ → Seated → Type 0
+abbrev pub HasTaken : PoolView → ℕ → PoolSeated → Type 0
 HasTaken v word m = (f : FrameView) × (m ≡ (view v.region (Taken word) 0 m.0.next v.dry (v.taken + 1) v.given, (word, Some f) ∷ [])) × IsFrameOf v.region word f
 
 -- a seat that goes round n frame words: k of them in order were found out, and `at` is the next
-pub record IsScanning (n k at : ℕ) (v : PoolView) (m : Seated) : Type 0 where
+pub record IsScanning (n k at : ℕ) (v : PoolView) (m : PoolSeated) : Type 0 where
   pub idle : m ≡ (view v.region Idle m.0.run m.0.next m.0.dry v.taken v.given, [])
   pub some_left : k < n → (m.0.run ≡ k) × (m.0.dry ≡ v.dry)
   pub none_left : k ≡ n → (m.0.run ≡ 0) × (m.0.dry ≡ v.dry + 1)
   pub place : k ≢ 0 → m.0.next ≡ at
 
 -- a seat that names a word without its slot, as in a loan
-abbrev pub IsLending : RegionView → ℕ → Seated → Type 0
+abbrev pub IsLending : RegionView → ℕ → PoolSeated → Type 0
 IsLending region word m = m ≡ (view region (Lent word) m.0.run m.0.next m.0.dry 0 0, [])
 
 -- the view of a badge that has one
@@ -49,7 +49,7 @@ abbrev pub pool_of : TableId → RegionView → PoolId
 pool_of table region = record { table = table; region = region }
 
 -- what contracts see of a seat: its pool, how often it found all frames out, and how many frames it took and put back
-pub record SeatView : Type 0 where
+pub record PoolSeatView : Type 0 where
   pub pool : PoolId
   pub dry : ℕ
   pub taken : ℕ

@@ -53,9 +53,9 @@ pub struct PoolSeat {
 }
 
 impl Model for PoolSeat {
-    ghost use Rattle.frame_pool.specs.Seats.{SeatView, IsIdle, pool_of};
+    ghost use Rattle.frame_pool.specs.Seats.{PoolSeatView, IsIdle, pool_of};
 
-    ghost Value = { SeatView };
+    ghost Value = { PoolSeatView };
 
     ghost view = { λ s. record { pool = pool_of s.seat.table_id s.seat.me.0.region; dry = s.seat.me.0.dry; taken = s.seat.me.0.taken; given = s.seat.me.0.given } };
 
@@ -241,7 +241,7 @@ impl PoolSeat {
 }
 
 impl Loan {
-    ghost use Rattle.frame_pool.specs.Lending.{LendsBytes};
+    ghost use Rattle.frame_pool.specs.Lending.{LendsLoanBytes};
 
     /// The frame's number, which is below the number of the pool's frames.
     pub fn number(&self) -> u32
@@ -261,7 +261,7 @@ impl Loan {
 
     /// The frame's bytes, to be written. No other frame changes with them.
     pub fn bytes_mut(&mut self) -> &mut [u8]
-        ensures* writes { sem 𝓛 (LendsBytes self.entry result) }
+        ensures* writes { sem 𝓛 (LendsLoanBytes self.entry result) }
         ensures bytes { result.now ≡ self.old.frame.bytes }
         ensures whole { length result.now ≡ PAGE }
     {

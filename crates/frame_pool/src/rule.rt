@@ -1,7 +1,7 @@
 // The rule of the pool's table, and the names of its steps.
 ghost use Rattle.std.specs.Prelude.{[]};
 ghost use Rattle.frame_pool.specs.PoolRule.{PoolRule};
-ghost use Rattle.frame_pool.specs.Plays.{first_view, spent_view, naming, lending, split_off, joined, counted, looked, claimed, lends, fetches, returns, compared, paired, word_of, second_of};
+ghost use Rattle.frame_pool.specs.Plays.{first_view, spent_view, naming, lending, split_off, joined, spare_counted, looked, claimed, lends, fetches, returns, compared, paired, named_word, second_of};
 ghost use Rattle.frame_pool.specs.declared.view.Named.TheVariants.{Idle, Lent};
 
 use crate::view::PoolView;
@@ -19,7 +19,7 @@ impl TableRule<Option<Frame>, PoolView, RegionMark> for Pooled {
 pub struct Count;
 
 impl Play<Option<Frame>, PoolView> for Count {
-    ghost then = { counted };
+    ghost then = { spare_counted };
 }
 
 pub struct Look;
@@ -98,7 +98,7 @@ impl Join<PoolView> for Together {
 pub struct Apart;
 
 impl Split<PoolView> for Apart {
-    ghost left = { λ v. naming v (Lent (word_of v.named)) };
+    ghost left = { λ v. naming v (Lent (named_word v.named)) };
 
     ghost right = { λ v. naming v (Lent (second_of v.named)) };
 }

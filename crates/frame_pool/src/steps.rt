@@ -2,7 +2,7 @@
 ghost use Rattle.std.specs.Prelude.{◌≡◌, ℕ, ◌+◌, ◌<◌, [], ◌∷◌, ◌≢◌, true, false, Some, None, IfSome, IfNone};
 ghost use Rattle.page_arena.specs.FrameView.{RegionView, FrameView};
 ghost use Rattle.frame_pool.specs.PoolRule.{IsFrameOf};
-ghost use Rattle.frame_pool.specs.Plays.{naming, noted, dried, taking, returning, split_off, lending, joined, after};
+ghost use Rattle.frame_pool.specs.Plays.{naming, found_out_at, dried, taking, returning, split_off, lending, joined, next_round};
 ghost use Rattle.frame_pool.specs.Seats.{IsWide, IsIdle, HasTaken, IsLending};
 ghost use Rattle.frame_pool.specs.declared.view.Named.TheVariants.{Idle, Taken, Lent, Spent};
 
@@ -41,7 +41,7 @@ pub(crate) fn claim(words: &Words, seat: &mut Held, frames: usize, word: usize) 
     requires seat { (seat.old.table_id ≡ words.now.table_id) × (seat.old.me ≡ (naming seat.old.me.0 Idle, [])) }
     ensures seat { (seat.new.table_id ≡ seat.old.table_id) × (seat.new.id ≡ seat.old.id) }
     ensures won { result ≡ true → (f : FrameView) × (seat.new.me ≡ (taking word seat.old.me.0, (word, Some f) ∷ [])) × IsFrameOf seat.old.me.0.region word f }
-    ensures missed { result ≡ false → seat.new.me ≡ (noted frames word seat.old.me.0, []) }
+    ensures missed { result ≡ false → seat.new.me ≡ (found_out_at frames word seat.old.me.0, []) }
 {
     if words.load::<Look>(seat, word) != IN {
         return false;
@@ -141,7 +141,7 @@ pub(crate) fn part(
 /// The word after it, round the end.
 fn word_after(frames: usize, word: usize) -> usize
     requires { word < frames }
-    ensures next { result ≡ after frames word }
+    ensures next { result ≡ next_round frames word }
     ensures word { result < frames }
 {
     if word + 1 < frames { word + 1 } else { 0 }

@@ -11,8 +11,8 @@ use Rattle.cmm_types.specs.declared.command.TheConstants.{MAX_MAPPING_PAGES}
 use Rattle.cmm_types.specs.declared.page.Tag.{Tag}
 use Rattle.cmm_types.specs.declared.page.Tag.TheVariants.{File, Anon}
 use Rattle.guest_cache.specs.CacheView.{holds_page}
-use Rattle.guest_cache.specs.CacheLaws.{slot_exact}
-use Rattle.guest_cache.specs.SwapTable.{IsTable}
+use Rattle.guest_cache.specs.Laws.CacheLaws.{slot_exact}
+use Rattle.guest_cache.specs.SwapTable.{IsSwapIndex}
 
 -- ---- the first place that passes a test
 
@@ -64,7 +64,9 @@ fails b never = elim b as (λ q. (q ≡ true → ⊥) → q ≡ false) [ true �
 
 holds-other : (slot index other at : ℕ) (o : Option Tag) → holds_page slot index o ≡ true → (slot * MAX_MAPPING_PAGES + index ≢ other * MAX_MAPPING_PAGES + at) → holds_page other at o ≡ false
 holds-other slot index other at o e apart =
-    fails (holds_page other at o) (λ f. let same = same_page slot index other at o e f in apart (ap (λ n. n * MAX_MAPPING_PAGES + index) (sym same.0) ∙ ap (λ n. other * MAX_MAPPING_PAGES + n) (sym same.1)))
+    fails (holds_page other at o) (λ f.
+    let same = same_page slot index other at o e f in
+    apart (ap (λ n. n * MAX_MAPPING_PAGES + index) (sym same.0) ∙ ap (λ n. other * MAX_MAPPING_PAGES + n) (sym same.1)))
 
 holds-none : (slot index : ℕ) (o : Option Tag) → is_none o ≡ true → holds_page slot index o ≡ false
 holds-none slot index None e = refl
@@ -78,7 +80,7 @@ no_tag n k = elim (cases_lt k n) [
   | inr above ↦ get_or_past (replicate n None) k None (rw length-replicate above)
 ]
 
-pub IsTable-opening : (slots count : ℕ) → IsTable slots (replicate count None) (replicate (slots * MAX_MAPPING_PAGES) None)
+pub IsTable-opening : (slots count : ℕ) → IsSwapIndex slots (replicate count None) (replicate (slots * MAX_MAPPING_PAGES) None)
 IsTable-opening slots count = record {
   whole = length-replicate (slots * MAX_MAPPING_PAGES) None;
   at = λ slot index below within.
@@ -88,9 +90,9 @@ IsTable-opening slots count = record {
 }
 
 -- the least free swap slot is assigned to a page that had none
-pub IsTable-assigned : (slots : ℕ) (swap : List (Option Tag)) (table : List (Option ℕ)) (slot index number : ℕ) → slot < slots → index < MAX_MAPPING_PAGES → IsTable slots swap table
+pub IsTable-assigned : (slots : ℕ) (swap : List (Option Tag)) (table : List (Option ℕ)) (slot index number : ℕ) → slot < slots → index < MAX_MAPPING_PAGES → IsSwapIndex slots swap table
     → number < length swap → is_none (get_or swap number None) ≡ true → position (holds_page slot index) swap ≡ None
-    → IsTable slots (slice_set swap number (Some (Anon slot index))) (slice_set table (slot * MAX_MAPPING_PAGES + index) (Some number))
+    → IsSwapIndex slots (slice_set swap number (Some (Anon slot index))) (slice_set table (slot * MAX_MAPPING_PAGES + index) (Some number))
 IsTable-assigned slots swap table slot index number below within sound number_below free none = record {
   whole = length-set table place (Some number) ∙ sound.whole;
   at = λ s i s_below i_within. elim (cases_eq (s * MAX_MAPPING_PAGES + i) place) [
@@ -98,7 +100,8 @@ IsTable-assigned slots swap table slot index number below within sound number_be
     | inr apart ↦
         get_or-set_other table place (s * MAX_MAPPING_PAGES + i) (Some number) None apart
         ∙ sound.at s i s_below i_within
-        ∙ sym (position-set (holds_page s i) swap number (Some tag) None (holds-other slot index s i (Some tag) (holds-itself slot index) (λ e. apart (sym e)) ∙ sym (holds-none s i (get_or swap number None) free)))
+        ∙ sym (position-set (holds_page s i) swap number (Some tag) None
+        (holds-other slot index s i (Some tag) (holds-itself slot index) (λ e. apart (sym e)) ∙ sym (holds-none s i (get_or swap number None) free)))
   ];
   once = λ s i a b has_a has_b. elim (cases_eq a number) [
     | inl is_a ↦ elim (cases_eq b number) [
@@ -139,10 +142,12 @@ IsTable-assigned slots swap table slot index number below within sound number_be
     clash : (s i k : ℕ) → k ≢ number → holds_page s i (get_or new number None) ≡ true → holds_page s i (get_or new k None) ≡ true → ⊥
     clash s i k apart mine has =
         let same = same_page s i slot index (Some tag) (ap (holds_page s i) (sym here) ∙ mine) (holds-itself slot index) in
-        let there : holds_page slot index (get_or swap k None) ≡ true = ap (λ (q : ℕ). holds_page q index (get_or swap k None)) same.0 ∙ ap (λ (q : ℕ). holds_page s q (get_or swap k None)) same.1 ∙ old s i k apart has in
+        let there : holds_page slot index (get_or swap k None) ≡ true =
+        ap (λ (q : ℕ). holds_page q index (get_or swap k None)) same.0 ∙ ap (λ (q : ℕ). holds_page s q (get_or swap k None)) same.1 ∙ old s i k apart has in
         let bad : false ≡ true = sym (nowhere k) ∙ there in cc
 
-    mine : (s i : ℕ) → s < slots → i < MAX_MAPPING_PAGES → s * MAX_MAPPING_PAGES + i ≡ place → slice_index_or (slice_set table place (Some number)) (s * MAX_MAPPING_PAGES + i) None ≡ position (holds_page s i) new
+    mine : (s i : ℕ) → s < slots → i < MAX_MAPPING_PAGES → s * MAX_MAPPING_PAGES + i ≡ place
+        → slice_index_or (slice_set table place (Some number)) (s * MAX_MAPPING_PAGES + i) None ≡ position (holds_page s i) new
     mine s i s_below i_within same =
         let one = slot_exact 0 s slot i index i_within within (omega (arith, same)) in
         ap (λ k. slice_index_or (slice_set table place (Some number)) k None) same
@@ -154,9 +159,9 @@ IsTable-assigned slots swap table slot index number below within sound number_be
         ∙ ap (λ (q : ℕ). position (holds_page s q) new) (sym one.1)
 
 -- the swap slot of a page is free
-pub IsTable-released : (slots : ℕ) (swap : List (Option Tag)) (table : List (Option ℕ)) (slot index number : ℕ) → slot < slots → index < MAX_MAPPING_PAGES → IsTable slots swap table
+pub IsTable-released : (slots : ℕ) (swap : List (Option Tag)) (table : List (Option ℕ)) (slot index number : ℕ) → slot < slots → index < MAX_MAPPING_PAGES → IsSwapIndex slots swap table
     → position (holds_page slot index) swap ≡ Some number
-    → IsTable slots (slice_set swap number None) (slice_set table (slot * MAX_MAPPING_PAGES + index) None)
+    → IsSwapIndex slots (slice_set swap number None) (slice_set table (slot * MAX_MAPPING_PAGES + index) None)
 IsTable-released slots swap table slot index number below within sound its = record {
   whole = length-set table place None ∙ sound.whole;
   at = λ s i s_below i_within. elim (cases_eq (s * MAX_MAPPING_PAGES + i) place) [
@@ -192,7 +197,8 @@ IsTable-released slots swap table slot index number below within sound its = rec
         let same = sound.once slot index k number (old slot index k has) there.1 in
         let bad : false ≡ true = ap (holds_page slot index) (sym here) ∙ ap (λ q. holds_page slot index (get_or new q None)) (sym same) ∙ has in cc
 
-    mine : (s i : ℕ) → s < slots → i < MAX_MAPPING_PAGES → s * MAX_MAPPING_PAGES + i ≡ place → slice_index_or (slice_set table place None) (s * MAX_MAPPING_PAGES + i) None ≡ position (holds_page s i) new
+    mine : (s i : ℕ) → s < slots → i < MAX_MAPPING_PAGES → s * MAX_MAPPING_PAGES + i ≡ place
+        → slice_index_or (slice_set table place None) (s * MAX_MAPPING_PAGES + i) None ≡ position (holds_page s i) new
     mine s i s_below i_within same =
         let one = slot_exact 0 s slot i index i_within within (omega (arith, same)) in
         ap (λ k. slice_index_or (slice_set table place None) k None) same
@@ -221,5 +227,6 @@ used-assigned swap tag number k least below =
     ]
 
 -- and below a released one
-pub used-released : (swap : List (Option Tag)) (number used k : ℕ) → ((k : ℕ) → k < used → is_none (get_or swap k None) ≡ false) → k < used → k < number → is_none (get_or (slice_set swap number None) k None) ≡ false
+pub used-released : (swap : List (Option Tag)) (number used k : ℕ) → ((k : ℕ) → k < used → is_none (get_or swap k None) ≡ false) → k < used → k < number
+    → is_none (get_or (slice_set swap number None) k None) ≡ false
 used-released swap number used k all below before = ap is_none (get_or-set_other swap number k None None (λ e. absurd (omega (arith, e, before)))) ∙ all k below

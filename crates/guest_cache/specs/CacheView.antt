@@ -28,23 +28,23 @@ IsAnonymous (File file index) = ⊥
 IsAnonymous (Anon slot index) = Unit {0}
 
 -- each tag has a place of its own: the file pages in order, and behind them the mapping slots' pages
-abbrev pub place_of : CacheView → Tag → ℕ
-place_of cache (File file index) = pages_before cache.files file + index
-place_of cache (Anon slot index) = sum cache.files + slot * MAX_MAPPING_PAGES + index
+abbrev pub index_place : CacheView → Tag → ℕ
+index_place cache (File file index) = pages_before cache.files file + index
+index_place cache (Anon slot index) = sum cache.files + slot * MAX_MAPPING_PAGES + index
 
 -- the page that has a tag
 abbrev pub page_of : CacheView → Tag → Option ℕ
-page_of cache tag = slice_index_or cache.index (place_of cache tag) None
+page_of cache tag = slice_index_or cache.index (index_place cache tag) None
 
 -- no page has a tag, and no swap slot is assigned
 abbrev pub opening_cache : List ℕ → (swap slots : ℕ) → CacheView
 opening_cache files swap slots = record { files = files; slots = slots; index = replicate (sum files + slots * MAX_MAPPING_PAGES) None; swap = replicate swap None }
 
 unfoldable pub with_page : CacheView → Tag → ℕ → CacheView
-with_page cache tag page = record cache { index = slice_set cache.index (place_of cache tag) (Some page) }
+with_page cache tag page = record cache { index = slice_set cache.index (index_place cache tag) (Some page) }
 
 unfoldable pub without_page : CacheView → Tag → CacheView
-without_page cache tag = record cache { index = slice_set cache.index (place_of cache tag) None }
+without_page cache tag = record cache { index = slice_set cache.index (index_place cache tag) None }
 
 -- a swap slot is assigned to this page of the mapping in a slot
 abbrev pub holds_page : (slot index : ℕ) → Option Tag → Bool

@@ -1,3 +1,3 @@
 pub mod CacheView
 pub mod SwapTable
-pub mod CacheLaws
+pub mod Laws

@@ -1,7 +1,7 @@
 ghost use Rattle.std.specs.Prelude.{◌≡◌, ◌≤◌, ◌+◌, ◌<◌, ◌^◌, length, sum, replicate, None, Some, IfOk, IfSome};
 ghost use Rattle.cmm_types.specs.declared.page.Tag.TheVariants.{Anon};
 ghost use Rattle.cmm_types.specs.declared.plan.TheConstants.{MAX_MAPPING_SLOTS};
-ghost use Rattle.guest_cache.specs.CacheView.{IsTag, place_of, page_of, opening_cache, with_page, without_page, IsAnonymous, swap_slot, free_swap, assigned, unassigned, backing_of, pages_before};
+ghost use Rattle.guest_cache.specs.CacheView.{IsTag, index_place, page_of, opening_cache, with_page, without_page, IsAnonymous, swap_slot, free_swap, assigned, unassigned, backing_of, pages_before};
 
 use cmm_types::{MAX_MAPPING_PAGES, Tag};
 use std::alloc::{AllocError, Global};
@@ -34,7 +34,7 @@ impl Model for Cache {
     ghost use Rattle.cmm_types.specs.declared.command.TheConstants.{MAX_MAPPING_PAGES};
     ghost use Rattle.cmm_types.specs.declared.plan.TheConstants.{MAX_MAPPING_SLOTS};
     ghost use Rattle.guest_cache.specs.CacheView.{CacheView, pages_before};
-    ghost use Rattle.guest_cache.specs.SwapTable.{IsTable};
+    ghost use Rattle.guest_cache.specs.SwapTable.{IsSwapIndex};
 
     ghost Value = { CacheView };
 
@@ -45,7 +45,7 @@ impl Model for Cache {
         × (c.file_pages + length c.swap.items < 2 ^ 32)
         × (c.slots ≤ MAX_MAPPING_SLOTS)
         × (length c.index.items ≡ sum c.files.items + c.slots * MAX_MAPPING_PAGES)
-        × IsTable c.slots c.swap.items c.swapped.items
+        × IsSwapIndex c.slots c.swap.items c.swapped.items
         × (c.used_below ≤ length c.swap.items)
         × ((number : ℕ) → number < c.used_below → is_none (get_or c.swap.items number None) ≡ false) };
 }
@@ -192,10 +192,10 @@ impl Cache {
     }
 
     /// The place of a tag in the index.
-    #[tactic(auto, using(crate::specs::CacheLaws::before_all))]
+    #[tactic(auto, using(crate::specs::Laws::CacheLaws::before_all))]
     fn place(&self, tag: Tag) -> usize
         requires { IsTag self.now tag }
-        ensures place { result ≡ place_of self.now tag }
+        ensures place { result ≡ index_place self.now tag }
         ensures within { result < length self.now.index }
     {
         match tag {

@@ -16,7 +16,7 @@ fn blocks_are_the_files_pages_in_order(rt: HostRuntime) -> Result<(), Fail> {
 
 /// The swap slot that page `index` of the first mapping slot is given, and the block behind that page then; none where it
 /// has one.
-#[tactic(auto, using(crate::specs::CacheLaws::is_tag_assigned, crate::specs::CacheLaws::slots_assigned))]
+#[tactic(auto, using(crate::specs::Laws::CacheLaws::is_tag_assigned, crate::specs::Laws::CacheLaws::slots_assigned))]
 fn give(cache: &mut Cache, index: u32) -> (Option<u32>, Option<u32>)
     requires slot { 0 < cache.old.slots }
     requires index { index < MAX_MAPPING_PAGES }
@@ -31,7 +31,7 @@ fn give(cache: &mut Cache, index: u32) -> (Option<u32>, Option<u32>)
 }
 
 /// Frees the swap slot of page `index` of the first mapping slot.
-#[tactic(auto, using(crate::specs::CacheLaws::slots_unassigned))]
+#[tactic(auto, using(crate::specs::Laws::CacheLaws::slots_unassigned))]
 fn take_back(cache: &mut Cache, index: u32)
     requires slot { 0 < cache.old.slots }
     requires index { index < MAX_MAPPING_PAGES }

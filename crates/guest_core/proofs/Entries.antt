@@ -16,6 +16,7 @@ use Rattle.guest_pages.specs.PagesView.{info_at}
 use Rattle.guest_maps.specs.MapsView.{entry_at}
 use Rattle.guest_rules.specs.Hint.{can_be_fetched_again, hint}
 use Rattle.guest_rules.specs.GuestState.{GuestState}
+use Rattle.guest_rules.specs.Calls.{CanLoad, CanStore}
 use Rattle.guest_rules.specs.Fit.{Fit}
 use Rattle.guest_rules.proofs.Cases.TurnCases.{ShowsPage, Maps}
 use Rattle.guest_rules.proofs.Rows.ValueLaws.{hint-tagged}
@@ -23,8 +24,9 @@ use Rattle.guest_rules.proofs.Kept.EntryLaws.{some_writer}
 use Rattle.guest_rules.proofs.Cases.Reached.{entry_page}
 use Rattle.guest_rules.proofs.Ready.ReadyCalls.{CanBeUsed, entry-usable}
 use Rattle.guest_core.specs.Between.{Hits}
+use Rattle.guest_core.proofs.Ready.{can_take}
 
-pub hit-usable : (g : GuestState) (v : StorageView) (d : DiskView) (cpu : ℕ) (op : Op) (page : ℕ) → Fit g v d → Hits g cpu op page → CanBeUsed g v page
+hit-usable : (g : GuestState) (v : StorageView) (d : DiskView) (cpu : ℕ) (op : Op) (page : ℕ) → Fit g v d → Hits g cpu op page → CanBeUsed g v page
 hit-usable g v d cpu op page f hits = entry-usable g v d cpu op hits.writes hits.slot hits.off (record { page = page; writable = hits.writable }) f hits.reaches hits.entry
 
 hit-page : (g : GuestState) (v : StorageView) (d : DiskView) (cpu : ℕ) (op : Op) (page : ℕ) → Fit g v d → (hits : Hits g cpu op page) → ShowsPage g hits.reaches.tag page
@@ -50,18 +52,29 @@ stored_to info tag tagged some = rw tagged (of (can_be_fetched_again info) (nat_
     of false none e = refl
 
 -- the page isn't unused
-pub hit-used : (g : GuestState) (v : StorageView) (d : DiskView) (cpu : ℕ) (op : Op) (page : ℕ) → Fit g v d → Hits g cpu op page → is_unused (v.values page).usage ≡ false
+hit-used : (g : GuestState) (v : StorageView) (d : DiskView) (cpu : ℕ) (op : Op) (page : ℕ) → Fit g v d → Hits g cpu op page → is_unused (v.values page).usage ≡ false
 hit-used g v d cpu op page f hits =
     let has = hit-page g v d cpu op page f hits in
     let below = (hit-usable g v d cpu op page f hits).pages_below in
     used_unless (v.values page).usage (λ bad. hint-tagged (info_at g.parts.pages page) hits.reaches.tag has.tagged (sym (f.hints.hints page below) ∙ bad))
 
--- and may be stored to, where a store goes through the entry
-pub hit-writable : (g : GuestState) (v : StorageView) (d : DiskView) (cpu : ℕ) (op : Op) (page number off : ℕ) (bytes : List ℕ) → Fit g v d → Hits g cpu op page → op ≡ Store number off bytes → can_store (v.values page).usage ≡ true
+-- so the page can be loaded from through the entry
+pub hit-loads : (g : GuestState) (v : StorageView) (d : DiskView) (cpu : ℕ) (op : Op) (page : ℕ) → Fit g v d → Hits g cpu op page → CanLoad g.parts v page
+hit-loads g v d cpu op page f hits = record { takes = can_take g v d page f (hit-usable g v d cpu op page f hits); used = hit-used g v d cpu op page f hits }
+
+-- and it may be stored to, where a store goes through the entry
+hit-writable : (g : GuestState) (v : StorageView) (d : DiskView) (cpu : ℕ) (op : Op) (page number off : ℕ) (bytes : List ℕ) → Fit g v d → Hits g cpu op page → op ≡ Store number off bytes
+    → can_store (v.values page).usage ≡ true
 hit-writable g v d cpu op page number off bytes f hits is =
     let has = hit-page g v d cpu op page f hits in
     let below = (hit-usable g v d cpu op page f hits).pages_below in
     let maps : Maps g cpu (Store number off bytes) hits.writes hits.slot hits.off = subst (λ q. Maps g cpu q hits.writes hits.slot hits.off) is hits.reaches.maps in
-    let entry : entry_at g.parts.maps hits.slot (hits.off / PAGE) ≡ Some (record { page = page; writable = true }) = hits.entry ∙ ap (λ w. Some (record { page = page; writable = w })) (hits.serves maps.0) in
+    let writable : hits.writable ≡ true = hits.serves maps.0 in
+    let entry : entry_at g.parts.maps hits.slot (hits.off / PAGE) ≡ Some (record { page = page; writable = true }) = hits.entry ∙ ap (λ w. Some (record { page = page; writable = w })) writable in
     let some : 1 ≤ (info_at g.parts.pages page).writers = omega (arith, f.entries.writers page, some_writer g.parts.maps hits.slot (hits.off / PAGE) page entry) in
     ap can_store (f.hints.hints page below) ∙ stored_to (info_at g.parts.pages page) hits.reaches.tag has.tagged some
+
+pub hit-stores : (g : GuestState) (v : StorageView) (d : DiskView) (cpu : ℕ) (op : Op) (page number off : ℕ) (bytes : List ℕ) → Fit g v d → Hits g cpu op page → op ≡ Store number off bytes
+    → CanStore g.parts v page
+hit-stores g v d cpu op page number off bytes f hits is =
+    record { takes = can_take g v d page f (hit-usable g v d cpu op page f hits); writable = hit-writable g v d cpu op page number off bytes f hits is }

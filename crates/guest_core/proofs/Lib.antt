@@ -1,7 +1,10 @@
-mod Entries
-mod Spots
 mod Ready
+mod Commands
+mod Entries
+mod Missing
 mod Opened
 mod OtherTurns
-mod AloneRuns
+mod Spots
 mod Syncs
+mod AloneRuns
+pub mod AloneDiscards

@@ -1,5 +1,5 @@
 -- What the tables of a guest give the calls of a sync's turn.
-use Rattle.std.proofs.Common.{◌≡◌, ◌<◌, ◌+◌, ◌^◌, ℕ, false, Some, ap, sym, subst, ◌∙◌, arith}
+use Rattle.std.proofs.Common.{◌≡◌, ◌<◌, ◌+◌, ◌^◌, ℕ, Some, ap, sym, subst, ◌∙◌, arith}
 use Rattle.cmm_types.specs.declared.page.Tag.TheVariants.{File}
 use Rattle.cmm_types.specs.declared.command.Op.{Op}
 use Rattle.cmm_types.specs.declared.command.Op.TheVariants.{Sync}
@@ -10,18 +10,22 @@ use Rattle.cmm_storage.specs.StorageView.{StorageView}
 use Rattle.guest_cache.specs.CacheView.{page_of}
 use Rattle.guest_rules.specs.declared.processor.Phase.TheVariants.{Sync as AtSync, SyncWrite}
 use Rattle.guest_rules.specs.GuestState.{GuestState, processor_at}
+use Rattle.guest_rules.specs.Calls.{CanTake, CanWriteBack}
 use Rattle.guest_rules.specs.Fit.{Fit, IsSyncing}
-use Rattle.guest_rules.proofs.Ready.ReadyCalls.{CanBeUsed, found-usable, file-few, syncing-tag, writing-stable}
+use Rattle.guest_rules.proofs.Ready.ReadyCalls.{file-few, syncing-tag, writing-usable, writing-stable, backing-below}
+use Rattle.guest_core.specs.Between.{IsFit}
+use Rattle.guest_core.proofs.Ready.{found_takes}
 
--- the page that has the tag of the page that a sync is at
-pub sync-usable : (g : GuestState) (v : StorageView) (d : DiskView) (cpu file index page : ℕ) → Fit g v d → IsSyncing g cpu file index → page_of g.parts.cache (File file index) ≡ Some page → CanBeUsed g v page
-sync-usable g v d cpu file index page f k found = found-usable g v d page (File file index) f (syncing-tag g v d cpu file index f k) found
+-- the page that has the tag of the page that a sync is at can be taken
+pub sync-takes : (g : GuestState) (v : StorageView) (cpu file index page : ℕ) → IsFit g v → IsSyncing g cpu file index → page_of g.parts.cache (File file index) ≡ Some page
+    → CanTake g.parts v page
+sync-takes g v cpu file index page fit k found = found_takes g v page (File file index) fit (syncing-tag g v fit.0 cpu file index fit.1 k) found
 
 -- a processor in the phase of a sync has one
-pub at-sync : (g : GuestState) (v : StorageView) (d : DiskView) (cpu : ℕ) (op : Op) (file index : ℕ) → Fit g v d → command_of g.plan cpu (processor_at g cpu).place ≡ Some op → op ≡ Sync file → (processor_at g cpu).phase ≡ AtSync index
-    → IsSyncing g cpu file index
-at-sync g v d cpu op file index f command is phase =
-    let k = f.locks.syncing cpu index phase in
+pub at-sync : (g : GuestState) (v : StorageView) (cpu : ℕ) (op : Op) (file index : ℕ) → IsFit g v → command_of g.plan cpu (processor_at g cpu).place ≡ Some op → op ≡ Sync file
+    → (processor_at g cpu).phase ≡ AtSync index → IsSyncing g cpu file index
+at-sync g v cpu op file index fit command is phase =
+    let k = fit.1.locks.syncing cpu index phase in
     let both : Some (Sync k.0) ≡ Some (Sync file) = sym k.1.command ∙ command ∙ ap Some is in
     let same : k.0 ≡ file = cc in
     subst (λ n. IsSyncing g cpu n index) same k.1
@@ -30,6 +34,15 @@ at-sync g v d cpu op file index f command is phase =
 pub write-next : (g : GuestState) (v : StorageView) (d : DiskView) (cpu index page : ℕ) → Fit g v d → (processor_at g cpu).phase ≡ SyncWrite index page → index + 1 < 2 ^ 32
 write-next g v d cpu index page f phase = let k = f.locks.writing cpu index page phase in omega (arith, k.syncing.within, file-few g v d k.file f)
 
--- the page that a processor writes back isn't unused
-pub write-used : (g : GuestState) (v : StorageView) (d : DiskView) (cpu index page : ℕ) → Fit g v d → (processor_at g cpu).phase ≡ SyncWrite index page → is_unused (v.values page).usage ≡ false
-write-used g v d cpu index page f phase = ap is_unused (writing-stable g v d cpu index page f phase)
+-- the page that a processor writes back can be written
+pub write-writes : (g : GuestState) (v : StorageView) (d : DiskView) (cpu index page : ℕ) → Fit g v d → (processor_at g cpu).phase ≡ SyncWrite index page → CanWriteBack g.parts v d page
+write-writes g v d cpu index page f phase =
+    let usable = writing-usable g v d cpu index page f phase in
+    record {
+      below = usable.page_below;
+      there = usable.pages_below;
+      tag = usable.tag;
+      block = backing-below g v d page f;
+      used = ap is_unused (writing-stable g v d cpu index page f phase);
+      none_held = f.hints.none_held;
+    }

@@ -1,21 +1,43 @@
 -- What stands before the parts of a turn.
-use Rattle.std.specs.Prelude.{◌≡◌, ◌/◌, ◌&&◌, not, if◌then◌else◌, ℕ, Bool, true, Option, Some, None}
+use Rattle.std.specs.Prelude.{◌≡◌, ◌<◌, ◌+◌, ◌/◌, ◌^◌, ◌&&◌, not, if◌then◌else◌, ℕ, Bool, true, length, Option, Some, None}
 use Rattle.cmm_types.specs.declared.page.TheConstants.{PAGE}
+use Rattle.cmm_types.specs.declared.page.Tag.{Tag}
+use Rattle.cmm_types.specs.declared.plan.TheConstants.{MAX_PROCESSES}
+use Rattle.cmm_types.specs.declared.command.TheConstants.{MAX_MAPPING_NUMBERS}
 use Rattle.cmm_types.specs.declared.command.Op.{Op}
 use Rattle.cmm_types.specs.declared.command.FlatRefusal.{FlatRefusal}
 use Rattle.cmm_types.specs.declared.command.FlatRefusal.TheVariants.{OutOfRange, ReadOnly}
 use Rattle.cmm_io.specs.DiskView.{DiskView}
 use Rattle.cmm_storage.specs.StorageView.{StorageView}
+use Rattle.guest_cache.specs.CacheView.{IsTag, page_of}
 use Rattle.guest_maps.specs.declared.slot.Pte.{Pte}
 use Rattle.guest_maps.specs.declared.slot.Spot.{Spot}
 use Rattle.guest_maps.specs.MapsView.{entry_at}
-use Rattle.guest_rules.specs.GuestState.{GuestState}
-use Rattle.guest_rules.specs.Fit.{Fit}
+use Rattle.guest_rules.specs.declared.parts.Parts.{Parts}
+use Rattle.guest_rules.specs.GuestState.{GuestState, processor_at}
+use Rattle.guest_rules.specs.Fit.{Fit, all_commands}
 use Rattle.guest_rules.proofs.Cases.Reached.{Reaches}
 
 -- fit beside some disk, for the turns that reach none
 abbrev pub IsFit : GuestState → StorageView → Type 0
 IsFit g v = (d : DiskView) × Fit g v d
+
+-- a processor's reply can be entered: the processor is there, the journal has room, and the number of its next command is within range
+pub record CanEnter (g : GuestState) (cpu : ℕ) : Type 0 where
+  pub there : cpu < length g.processors
+  pub room : length g.journal < all_commands g.plan
+  pub next : (processor_at g cpu).place + 1 < 2 ^ 32
+
+-- a page can get a tag, which no page has
+pub record CanGetTag (parts : Parts) (page : ℕ) (tag : Tag) : Type 0 where
+  pub below : page < length parts.pages.infos
+  pub is_tag : IsTag parts.cache tag
+  pub new : page_of parts.cache tag ≡ None
+
+-- a process's mapping of this number can be looked up
+pub record CanLookUp (process number : ℕ) : Type 0 where
+  pub process_below : process < MAX_PROCESSES
+  pub number_below : number < MAX_MAPPING_NUMBERS
 
 -- a load or a store finds an entry that serves it, and shows the page
 pub record Hits (g : GuestState) (cpu : ℕ) (op : Op) (page : ℕ) : Type 0 where

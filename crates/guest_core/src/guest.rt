@@ -1,5 +1,6 @@
-ghost use Rattle.std.specs.Prelude.{◌≡◌, ◌≤◌, ◌<◌, ◌+◌, ◌/◌, ◌^◌, ◌↔◌, length, None, Some, true, IfOk, IsTrue};
+ghost use Rattle.std.specs.Prelude.{◌≡◌, ◌<◌, ◌↔◌, length, None, Some, true, IfOk, IsTrue, option_copied};
 ghost use Rattle.cmm_types.specs.declared.plan.TheConstants.{MAX_MAPPING_SLOTS};
+ghost use Rattle.cmm_types.specs.declared.turn.Turn.TheVariants.{Finished};
 ghost use Rattle.cmm_types.specs.InRange.{GuestInRange};
 ghost use Rattle.cmm_flat.specs.Legal.{command_of, process_of};
 ghost use Rattle.cmm_io.specs.DiskView.{DiskView};
@@ -8,13 +9,15 @@ ghost use Rattle.cmm_storage.specs.Program.{done, Does};
 ghost use Rattle.guest_pages.specs.PagesView.{info_at};
 ghost use Rattle.guest_rules.specs.declared.processor.Phase.TheVariants.{Start, Fill};
 ghost use Rattle.guest_rules.specs.GuestState.{opening_guest, processor_at, with_phase, entered};
-ghost use Rattle.guest_rules.specs.Turns.{turn};
+ghost use Rattle.guest_rules.specs.Turns.{missed_next, turn_in, turn};
 ghost use Rattle.guest_rules.specs.Built.{GuestIsBuilt};
 ghost use Rattle.guest_rules.specs.Fresh.{AreFresh};
 ghost use Rattle.guest_rules.specs.Fit.{Fit, all_commands};
 ghost use Rattle.guest_rules.specs.Cause.{TurnCause, AloneCause, NoWrongDiscard};
 ghost use Rattle.guest_rules.specs.Again.{WhyAgain};
 ghost use Rattle.guest_rules.specs.Alone.{alone};
+ghost use Rattle.guest_core.specs.Between.{CanEnter};
+ghost use Rattle.guest_core.specs.AloneDiscards.{TurnsDiscardRightly, moved_before, last_turn};
 
 mod look;
 mod page;
@@ -28,7 +31,7 @@ use cmm_types::{Alone, Entry, GuestPlan, MAX_FILE_PAGES, MAX_MAPPING_SLOTS, Op, 
 use guest_cache::Cache;
 use guest_maps::Maps;
 use guest_pages::{PageInfo, Pages};
-use guest_rules::{Parts, Phase, Processor};
+use guest_rules::{Missed, Parts, Phase, Processor};
 use std::alloc::{AllocError, Global};
 use std::marker::Model;
 
@@ -130,9 +133,9 @@ impl Guest {
     }
 
     /// The command that a processor is at.
-    fn command(&self, cpu: u32) -> Option<Op>
+    fn command(&self, cpu: u32) -> Option<&Op>
         requires { cpu < length self.now.processors }
-        ensures { result ≡ command_of self.now.plan cpu (processor_at self.now cpu).place }
+        ensures { option_copied result ≡ command_of self.now.plan cpu (processor_at self.now cpu).place }
     {
         command(&self.plan, cpu, self.processor(cpu).place)
     }
@@ -144,25 +147,37 @@ impl Guest {
         process(&self.plan, cpu)
     }
 
-    /// Writes a reply into the journal; the processor goes on to its next command.
+    /// Writes a reply, with a copy of its command, into the journal; the processor goes on to its next command.
     #[tactic(auto, unfolding(guest_rules::specs::GuestState::entered))]
-    fn enter(&mut self, cpu: u32, op: Op, reply: Reply)
-        requires cpu { cpu < length self.old.processors }
-        requires room { length self.old.journal < all_commands self.old.plan }
-        requires place { (processor_at self.old cpu).place + 1 < 2 ^ 32 }
-        ensures { self.new ≡ entered self.old cpu op reply }
+    fn finish(&mut self, cpu: u32, op: &Op, reply: Reply) -> Turn
+        requires { CanEnter self.old cpu }
+        ensures entered { self.new ≡ entered self.old cpu op.now reply }
+        ensures finished { result ≡ Finished }
     {
         let place = self.processors[cpu as usize].place;
         let _ = self.journal.push(Entry {
             cpu,
             k: place,
-            op,
+            op: op.copy(),
             reply,
         });
         self.processors[cpu as usize] = Processor {
             place: place + 1,
             phase: Phase::Start,
         };
+        Turn::Finished
+    }
+
+    /// A command whose page wasn't reached goes on, is taken again, or has failed.
+    fn miss(&mut self, cpu: u32, op: &Op, missed: Missed) -> Turn
+        requires { CanEnter self.old cpu }
+        ensures { missed_next self.old cpu op.now self.old.parts missed ≡ done (self.new, result) }
+    {
+        match missed {
+            Missed::Gone => Turn::Moved,
+            Missed::Again { why } => Turn::Again { why },
+            Missed::Fail(cause) => self.finish(cpu, op, Reply::Fail(cause)),
+        }
     }
 
     #[tactic(auto, unfolding(guest_rules::specs::GuestState::with_phase))]
@@ -175,7 +190,7 @@ impl Guest {
     }
 
     /// The turn, as its program says.
-    #[tactic(auto, using(cmm_storage::specs::Runs::runs, guest_hint::specs::RunLaws::does_alone), unfolding(guest_rules::specs::Turns::turn))]
+    #[tactic(auto, using(cmm_storage::specs::Runs::runs, guest_hint::specs::Laws::RunLaws::does_alone), unfolding(guest_rules::specs::Turns::turn))]
     fn run_turn<St: Storage, D: Disk>(&mut self, cpu: u32, st: &mut St, disk: &mut D) -> Turn
         requires cpu { cpu < length self.old.processors }
         requires fit { Fit self.old (St.view st.old) (D.view disk.old) }
@@ -183,14 +198,35 @@ impl Guest {
     {
         match self.command(cpu) {
             None => Turn::Idle,
-            Some(op) => match self.processor(cpu).phase {
-                Phase::Start => self.start_turn(cpu, st, &op),
-                Phase::Fill { page } => self.fill_turn(cpu, st, disk, op, page),
-                Phase::Sync { index } => self.look_turn(cpu, st, &op, index),
-                Phase::SyncWrite { index, page } => self.write_back_turn(
-                    cpu, st, disk, &op, index, page,
-                ),
-            },
+            Some(op) => {
+                // The turn changes the guest that has the command.
+                let op = op.copy();
+                self.command_turn(cpu, st, disk, &op)
+            }
+        }
+    }
+
+    /// The turn of a processor that is at this command.
+    #[tactic(auto, using(cmm_storage::specs::Runs::runs, guest_hint::specs::Laws::RunLaws::does_alone))]
+    fn command_turn<St: Storage, D: Disk>(
+        &mut self,
+        cpu: u32,
+        st: &mut St,
+        disk: &mut D,
+        op: &Op,
+    ) -> Turn
+        requires cpu { cpu < length self.old.processors }
+        requires fit { Fit self.old (St.view st.old) (D.view disk.old) }
+        requires command { command_of self.old.plan cpu (processor_at self.old cpu).place ≡ Some op.now }
+        ensures row { Does St.step D.step (turn_in self.old cpu op.now (processor_at self.old cpu).phase) st.old disk.old (self.new, result) st.new disk.new }
+    {
+        match self.processor(cpu).phase {
+            Phase::Start => self.start_turn(cpu, st, op),
+            Phase::Fill { page } => self.fill_turn(cpu, st, disk, op, page),
+            Phase::Sync { index } => self.look_turn(cpu, st, op, index),
+            Phase::SyncWrite { index, page } => self.write_back_turn(
+                cpu, st, disk, op, index, page,
+            ),
         }
     }
 
@@ -242,6 +278,7 @@ impl Guest {
         ensures row { Does St.step D.step (alone self.old cpu) st.old disk.old (self.new, result) st.new disk.new }
         ensures fit { Fit self.new (St.view st.new) (D.view disk.new) }
         ensures causes { AloneCause self.old (St.view st.old) (D.view disk.old) cpu result self.new (St.view st.new) (D.view disk.new) }
+        ensures discards { TurnsDiscardRightly (moved_before result) self.old (St.view st.old) (D.view disk.old) cpu (last_turn result) self.new (St.view st.new) (D.view disk.new) }
         ensures plan { self.new.plan ≡ self.old.plan }
     {
         self.run_alone(cpu, st, disk)

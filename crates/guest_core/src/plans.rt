@@ -1,20 +1,23 @@
 // What a guest's plan says of a command.
-ghost use Rattle.std.specs.Prelude.{◌≡◌, map, IfOk};
+ghost use Rattle.std.specs.Prelude.{◌≡◌, map, IfOk, option_copied};
 ghost use Rattle.cmm_types.specs.InRange.{GuestInRange};
 ghost use Rattle.cmm_flat.specs.Legal.{command_of, process_of};
-ghost use Rattle.guest_rules.specs.Turns.{file_pages, has_bytes};
+ghost use Rattle.guest_rules.specs.Turns.{file_pages, file_has_bytes};
 ghost use Rattle.guest_rules.specs.Fit.{all_commands};
 
 use cmm_types::{FilePlan, GuestPlan, Op, PAGE};
 use std::alloc::{AllocError, Global};
 
 /// The command with this number of this processor.
-pub fn command(plan: &GuestPlan, cpu: u32, place: u32) -> Option<Op>
-    ensures { result ≡ command_of plan.now cpu place }
+pub fn command(plan: &GuestPlan, cpu: u32, place: u32) -> Option<&Op>
+    ensures { option_copied result ≡ command_of plan.now cpu place }
 {
-    let its = plan.cpus.as_slice().get(cpu as usize)?;
-    let op = its.commands.as_slice().get(place as usize)?;
-    Some(op.copy())
+    plan.cpus
+        .as_slice()
+        .get(cpu as usize)?
+        .commands
+        .as_slice()
+        .get(place as usize)
 }
 
 /// The process of a processor; 0 where there is no such processor.
@@ -38,8 +41,8 @@ pub fn file_pages(files: &[FilePlan], file: u32) -> u32
 }
 
 /// Whether there is such a file, and it has `len` bytes from `off` on.
-pub fn has_bytes(files: &[FilePlan], file: u32, off: u32, len: u32) -> bool
-    ensures { result ≡ has_bytes files.now file off len }
+pub fn file_has_bytes(files: &[FilePlan], file: u32, off: u32, len: u32) -> bool
+    ensures { result ≡ file_has_bytes files.now file off len }
 {
     let end = u64::from(off) + u64::from(len);
     let size = PAGE as u64 * u64::from(file_pages(files, file));

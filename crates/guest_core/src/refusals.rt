@@ -1,11 +1,9 @@
 // Why commands are refused.
 ghost use Rattle.std.specs.Prelude.{◌≡◌, ◌<◌, length, Some};
-ghost use Rattle.cmm_types.specs.declared.command.TheConstants.{MAX_MAPPING_NUMBERS};
-ghost use Rattle.cmm_types.specs.declared.plan.TheConstants.{MAX_PROCESSES};
 ghost use Rattle.cmm_types.specs.InRange.{IsPiece};
 ghost use Rattle.guest_maps.specs.MapsView.{find_slot};
 ghost use Rattle.guest_rules.specs.Turns.{refusal_at, refusal_of_pin, refusal_of_pin_at};
-ghost use Rattle.guest_core.specs.Between.{refusal_by_spot};
+ghost use Rattle.guest_core.specs.Between.{CanLookUp, refusal_by_spot};
 
 use cmm_types::{FlatRefusal, PAGE};
 use guest_maps::{Maps, Spot};
@@ -35,8 +33,7 @@ pub fn refusal_at(
     off: u32,
     len: u32,
 ) -> Option<FlatRefusal>
-    requires process { process < MAX_PROCESSES }
-    requires map { map < MAX_MAPPING_NUMBERS }
+    requires looks_up { CanLookUp process map }
     requires piece { IsPiece off len }
     ensures { result ≡ refusal_at maps.now writes off len (find_slot maps.now process map) }
 {
@@ -78,8 +75,7 @@ pub fn refusal_of_pin_at(
     map: u32,
     index: u32,
 ) -> Option<FlatRefusal>
-    requires process { process < MAX_PROCESSES }
-    requires map { map < MAX_MAPPING_NUMBERS }
+    requires looks_up { CanLookUp process map }
     ensures { result ≡ refusal_of_pin_at maps.now pins index (find_slot maps.now process map) }
 {
     match maps.find(process, map) {

@@ -1,28 +1,22 @@
 // The entries of mappings.
-ghost use Rattle.std.specs.Prelude.{◌≡◌, ◌<◌, ◌≤◌, ◌*◌, length, None, Some, Contains, IfSome};
-ghost use Rattle.cmm_types.specs.declared.plan.TheConstants.{MAX_MAPPING_SLOTS};
-ghost use Rattle.cmm_types.specs.declared.command.TheConstants.{MAX_MAPPING_PAGES};
+ghost use Rattle.std.specs.Prelude.{◌≡◌, length, None};
 ghost use Rattle.cmm_storage.specs.Program.{DoesAlone};
-ghost use Rattle.guest_pages.specs.PagesView.{info_at};
-ghost use Rattle.guest_cache.specs.CacheView.{IsTag};
-ghost use Rattle.guest_maps.specs.MapsView.{IsPlace};
 ghost use Rattle.guest_rules.specs.Rows.{mapped, resolve};
+ghost use Rattle.guest_rules.specs.Calls.{IsInUse, CanTake, CanMap};
 ghost use Rattle.guest_rules.specs.Answers.{HasBeenFilled, ResolveAnswer};
 
 use cmm_storage::{Busy, Storage};
 use cmm_types::Why;
 use guest_hint::{make_stable, rehint};
 use guest_maps::Pte;
-use guest_rules::{Parts, Resolved};
+use guest_rules::{Parts, Placed};
 
 /// Lets the entry of a mapping's page show the guest's page. Where stores may go through it, the page has one
 /// writer more.
 #[tactic(auto, unfolding(guest_rules::specs::Rows::mapped))]
 fn map_entry(parts: &mut Parts, page: u32, slot: u32, index: u32, writable: bool)
-    requires page { page < length parts.old.pages.infos }
-    requires shown { page < parts.old.maps.pages }
-    requires writers { (info_at parts.old.pages page).writers ≤ MAX_MAPPING_SLOTS * MAX_MAPPING_PAGES }
-    requires place { IsPlace parts.old.maps slot index }
+    requires in_use { IsInUse parts.old page }
+    requires map { CanMap parts.old page slot index }
     ensures value { parts.new ≡ mapped parts.old page slot index writable }
     ensures count { length parts.new.pages.infos ≡ length parts.old.pages.infos }
 {
@@ -40,32 +34,26 @@ fn run_resolve<St: Storage>(
     slot: u32,
     index: u32,
     writable: bool,
-) -> Resolved
-    requires page { page < length parts.old.pages.infos }
-    requires pages { page < (St.view st.old).pages }
-    requires not_free { Contains parts.old.pages.free page → ⊥ }
-    requires tag { IfSome (info_at parts.old.pages page).tag (λ tag. IsTag parts.old.cache tag) }
-    requires shown { page < parts.old.maps.pages }
-    requires writers { (info_at parts.old.pages page).writers ≤ MAX_MAPPING_SLOTS * MAX_MAPPING_PAGES }
-    requires place { IsPlace parts.old.maps slot index }
-    requires none_held { (St.view st.old).held ≡ None }
+) -> Placed
+    requires takes { CanTake parts.old (St.view st.old) page }
+    requires map { CanMap parts.old page slot index }
     ensures row { DoesAlone St.step (resolve parts.old page slot index writable) st.old (parts.new, result) st.new }
     ensures none_held { (St.view st.new).held ≡ None }
 {
     match st.take(page) {
-        Err(Busy { word }) => Resolved::Again {
+        Err(Busy { word }) => Placed::Again {
             why: Why::Busy { page, word },
         },
         Ok(()) => match make_stable(parts, st, page) {
             Err(_) => {
                 st.put(page);
-                Resolved::Gone
+                Placed::Gone
             }
             Ok(()) => {
                 map_entry(parts, page, slot, index, writable);
                 rehint(parts, st, page);
                 st.put(page);
-                Resolved::Mapped
+                Placed::Done
             }
         },
     }
@@ -80,15 +68,9 @@ pub fn resolve<St: Storage>(
     slot: u32,
     index: u32,
     writable: bool,
-) -> Resolved
-    requires page { page < length parts.old.pages.infos }
-    requires pages { page < (St.view st.old).pages }
-    requires not_free { Contains parts.old.pages.free page → ⊥ }
-    requires tag { IfSome (info_at parts.old.pages page).tag (λ tag. IsTag parts.old.cache tag) }
-    requires shown { page < parts.old.maps.pages }
-    requires writers { (info_at parts.old.pages page).writers ≤ MAX_MAPPING_SLOTS * MAX_MAPPING_PAGES }
-    requires place { IsPlace parts.old.maps slot index }
-    requires none_held { (St.view st.old).held ≡ None }
+) -> Placed
+    requires takes { CanTake parts.old (St.view st.old) page }
+    requires map { CanMap parts.old page slot index }
     ensures row { DoesAlone St.step (resolve parts.old page slot index writable) st.old (parts.new, result) st.new }
     ensures none_held { (St.view st.new).held ≡ None }
     ensures answer { HasBeenFilled parts.old page (St.view st.old) → ResolveAnswer parts.old page slot index writable (St.view st.old) parts.new result (St.view st.new) }

@@ -1,10 +1,8 @@
-ghost use Rattle.std.specs.Prelude.{◌≡◌, ◌<◌, ◌≤◌, length, None, Some, Err, true, Contains, IfSome};
+ghost use Rattle.std.specs.Prelude.{◌≡◌, ◌<◌, length, None, Err, IfSome};
 ghost use Rattle.cmm_types.specs.declared.page.TheConstants.{PAGE};
-ghost use Rattle.cmm_types.specs.declared.page.Usage.TheVariants.{S};
 ghost use Rattle.cmm_storage.specs.Program.{Does, DoesAlone};
-ghost use Rattle.guest_pages.specs.PagesView.{info_at};
-ghost use Rattle.guest_cache.specs.CacheView.{IsTag};
-ghost use Rattle.guest_rules.specs.Rows.{backing_at, give_up, fill_touched, fill_with, fill_from, fill};
+ghost use Rattle.guest_rules.specs.Rows.{give_up, fill_touched, fill_with, fill_from, fill};
+ghost use Rattle.guest_rules.specs.Calls.{IsHeld, HasTaken, TakesBytes, CanFill};
 ghost use Rattle.guest_rules.specs.Answers.{IsToBeFilled, FillAnswer};
 
 use cmm_io::Disk;
@@ -17,11 +15,7 @@ use guest_rules::{Filled, Parts};
 /// Frees the held page, which couldn't be filled, and gives it back.
 #[tactic(auto, using(cmm_storage::specs::Runs::runs))]
 fn give_up<St: Storage>(parts: &mut Parts, st: &mut St, page: u32, cause: Cause) -> Filled
-    requires page { page < length parts.old.pages.infos }
-    requires not_free { Contains parts.old.pages.free page → ⊥ }
-    requires tag { IfSome (info_at parts.old.pages page).tag (λ tag. IsTag parts.old.cache tag) }
-    requires shown { page < parts.old.maps.pages }
-    requires held { (St.view st.old).held ≡ Some page }
+    requires taken { HasTaken parts.old (St.view st.old) page }
     ensures row { DoesAlone St.step (give_up parts.old page cause) st.old (parts.new, result) st.new }
     ensures none_held { (St.view st.new).held ≡ None }
 {
@@ -35,10 +29,8 @@ fn give_up<St: Storage>(parts: &mut Parts, st: &mut St, page: u32, cause: Cause)
 /// store sets the change bit, which is dropped.
 #[tactic(auto, using(cmm_storage::specs::Runs::runs))]
 fn fill_with<St: Storage>(parts: &mut Parts, st: &mut St, page: u32, bytes: &[u8]) -> Filled
-    requires page { page < length parts.old.pages.infos }
-    requires held { (St.view st.old).held ≡ Some page }
-    requires touched { (St.view st.old).touched ≡ true }
-    requires stable { ((St.view st.old).values page).usage ≡ S }
+    requires held { IsHeld parts.old (St.view st.old) page }
+    requires bytes { TakesBytes (St.view st.old) page }
     requires whole { length bytes.now ≡ PAGE }
     ensures row { DoesAlone St.step (fill_with parts.old page bytes.now) st.old (parts.new, result) st.new }
     ensures none_held { (St.view st.new).held ≡ None }
@@ -55,11 +47,7 @@ fn fill_with<St: Storage>(parts: &mut Parts, st: &mut St, page: u32, bytes: &[u8
 /// The held page can't be filled now, or not at all.
 #[tactic(auto, using(cmm_storage::specs::Runs::runs))]
 fn miss<St: Storage>(parts: &mut Parts, st: &mut St, page: u32, trap: Trap) -> Filled
-    requires page { page < length parts.old.pages.infos }
-    requires not_free { Contains parts.old.pages.free page → ⊥ }
-    requires tag { IfSome (info_at parts.old.pages page).tag (λ tag. IsTag parts.old.cache tag) }
-    requires shown { page < parts.old.maps.pages }
-    requires held { (St.view st.old).held ≡ Some page }
+    requires taken { HasTaken parts.old (St.view st.old) page }
     ensures row { DoesAlone St.step (fill_touched parts.old page (Err trap)) st.old (parts.new, result) st.new }
     ensures none_held { (St.view st.new).held ≡ None }
 {
@@ -76,7 +64,7 @@ fn miss<St: Storage>(parts: &mut Parts, st: &mut St, page: u32, trap: Trap) -> F
 }
 
 /// Fills the held page, which is stable and was touched, from a block, or with zeros where there is none.
-#[tactic(auto, using(cmm_storage::specs::Runs::runs, guest_hint::specs::RunLaws::does_alone), unfolding(cmm_storage::specs::StorageView::zeros))]
+#[tactic(auto, using(cmm_storage::specs::Runs::runs, guest_hint::specs::Laws::RunLaws::does_alone), unfolding(cmm_types::specs::Bytes::zero_page))]
 fn fill_from<St: Storage, D: Disk>(
     parts: &mut Parts,
     st: &mut St,
@@ -84,14 +72,9 @@ fn fill_from<St: Storage, D: Disk>(
     page: u32,
     block: Option<u32>,
 ) -> Filled
-    requires page { page < length parts.old.pages.infos }
-    requires not_free { Contains parts.old.pages.free page → ⊥ }
-    requires tag { IfSome (info_at parts.old.pages page).tag (λ tag. IsTag parts.old.cache tag) }
-    requires shown { page < parts.old.maps.pages }
+    requires taken { HasTaken parts.old (St.view st.old) page }
     requires block { IfSome block (λ number. number < (D.view disk.old).count) }
-    requires held { (St.view st.old).held ≡ Some page }
-    requires touched { (St.view st.old).touched ≡ true }
-    requires stable { ((St.view st.old).values page).usage ≡ S }
+    requires bytes { TakesBytes (St.view st.old) page }
     ensures row { Does St.step D.step (fill_from parts.old page block) st.old disk.old (parts.new, result) st.new disk.new }
     ensures none_held { (St.view st.new).held ≡ None }
 {
@@ -106,15 +89,9 @@ fn fill_from<St: Storage, D: Disk>(
 }
 
 /// The filling, as its program says.
-#[tactic(auto, using(cmm_storage::specs::Runs::runs, guest_hint::specs::RunLaws::does_alone), unfolding(guest_rules::specs::Rows::fill))]
+#[tactic(auto, using(cmm_storage::specs::Runs::runs, guest_hint::specs::Laws::RunLaws::does_alone), unfolding(guest_rules::specs::Rows::fill))]
 fn run_fill<St: Storage, D: Disk>(parts: &mut Parts, st: &mut St, disk: &mut D, page: u32) -> Filled
-    requires page { page < length parts.old.pages.infos }
-    requires pages { page < (St.view st.old).pages }
-    requires not_free { Contains parts.old.pages.free page → ⊥ }
-    requires tag { IfSome (info_at parts.old.pages page).tag (λ tag. IsTag parts.old.cache tag) }
-    requires shown { page < parts.old.maps.pages }
-    requires block { IfSome (backing_at parts.old page) (λ block. block < (D.view disk.old).count) }
-    requires none_held { (St.view st.old).held ≡ None }
+    requires fills { CanFill parts.old (St.view st.old) (D.view disk.old) page }
     ensures row { Does St.step D.step (fill parts.old page) st.old disk.old (parts.new, result) st.new disk.new }
     ensures none_held { (St.view st.new).held ≡ None }
 {
@@ -138,13 +115,7 @@ fn run_fill<St: Storage, D: Disk>(parts: &mut Parts, st: &mut St, disk: &mut D, 
 /// Fills a locked page with the bytes of its tag, from the guest's disk or with zeros. Where it fails, the page is
 /// free again.
 pub fn fill<St: Storage, D: Disk>(parts: &mut Parts, st: &mut St, disk: &mut D, page: u32) -> Filled
-    requires page { page < length parts.old.pages.infos }
-    requires pages { page < (St.view st.old).pages }
-    requires not_free { Contains parts.old.pages.free page → ⊥ }
-    requires tag { IfSome (info_at parts.old.pages page).tag (λ tag. IsTag parts.old.cache tag) }
-    requires shown { page < parts.old.maps.pages }
-    requires block { IfSome (backing_at parts.old page) (λ block. block < (D.view disk.old).count) }
-    requires none_held { (St.view st.old).held ≡ None }
+    requires fills { CanFill parts.old (St.view st.old) (D.view disk.old) page }
     ensures row { Does St.step D.step (fill parts.old page) st.old disk.old (parts.new, result) st.new disk.new }
     ensures none_held { (St.view st.new).held ≡ None }
     ensures answer { IsToBeFilled parts.old page (St.view st.old) (D.view disk.old) → FillAnswer parts.old page (St.view st.old) (D.view disk.old) parts.new result (St.view st.new) (D.view disk.new) }

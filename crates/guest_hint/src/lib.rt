@@ -9,5 +9,5 @@ mod hint;
 mod tests;
 
 pub use blocks::backing;
-pub use held::{discard_handler, forget, make_stable, rehint};
+pub use held::{discard_handler, forget, make_stable, mark_changed, rehint};
 pub use hint::hint_of;

@@ -1,13 +1,9 @@
 // Bytes through an entry that shows their page.
-ghost use Rattle.std.specs.Prelude.{◌≡◌, ◌<◌, ◌≤◌, ◌+◌, length, None, Some, Err, true, false, Contains, IfSome};
+ghost use Rattle.std.specs.Prelude.{◌≡◌, ◌≤◌, ◌+◌, length, None};
 ghost use Rattle.cmm_types.specs.declared.page.TheConstants.{PAGE};
-ghost use Rattle.cmm_types.specs.declared.bytes.TheConstants.{MAX_BYTES};
-ghost use Rattle.essa_state.specs.StateWord.{is_unused};
-ghost use Rattle.cmm_storage.specs.StorageView.{can_store};
 ghost use Rattle.cmm_storage.specs.Program.{DoesAlone};
-ghost use Rattle.guest_pages.specs.PagesView.{info_at};
-ghost use Rattle.guest_cache.specs.CacheView.{IsTag};
 ghost use Rattle.guest_rules.specs.Rows.{touch_missed, load_page, store_through};
+ghost use Rattle.guest_rules.specs.Calls.{HasTaken, CanLoad, CanStore, IsInPage};
 ghost use Rattle.guest_rules.specs.Answers.{HasBeenFilled, LoadAnswer, StoreAnswer};
 
 use crate::read::fetch;
@@ -19,11 +15,7 @@ use guest_rules::{Missed, Parts};
 /// The touch of the held page failed: a page that was discarded goes through its handler. The page is given back.
 #[tactic(auto, using(cmm_storage::specs::Runs::runs))]
 fn miss<R, St: Storage>(parts: &mut Parts, st: &mut St, page: u32, trap: Trap) -> Result<R, Missed>
-    requires page { page < length parts.old.pages.infos }
-    requires not_free { Contains parts.old.pages.free page → ⊥ }
-    requires tag { IfSome (info_at parts.old.pages page).tag (λ tag. IsTag parts.old.cache tag) }
-    requires shown { page < parts.old.maps.pages }
-    requires held { (St.view st.old).held ≡ Some page }
+    requires taken { HasTaken parts.old (St.view st.old) page }
     ensures row { DoesAlone St.step (touch_missed page parts.old trap) st.old (parts.new, result) st.new }
     ensures none_held { (St.view st.new).held ≡ None }
 {
@@ -55,15 +47,8 @@ fn run_load_page<St: Storage>(
     off: u32,
     len: u32,
 ) -> Result<Bytes64, Missed>
-    requires page { page < length parts.old.pages.infos }
-    requires pages { page < (St.view st.old).pages }
-    requires not_free { Contains parts.old.pages.free page → ⊥ }
-    requires tag { IfSome (info_at parts.old.pages page).tag (λ tag. IsTag parts.old.cache tag) }
-    requires shown { page < parts.old.maps.pages }
-    requires used { is_unused ((St.view st.old).values page).usage ≡ false }
-    requires none_held { (St.view st.old).held ≡ None }
-    requires few { len ≤ MAX_BYTES }
-    requires within { off + len ≤ PAGE }
+    requires loads { CanLoad parts.old (St.view st.old) page }
+    requires bytes { IsInPage off len }
     ensures row { DoesAlone St.step (load_page parts.old page off len) st.old (parts.new, result) st.new }
     ensures none_held { (St.view st.new).held ≡ None }
 {
@@ -90,15 +75,8 @@ pub fn load_page<St: Storage>(
     off: u32,
     len: u32,
 ) -> Result<Bytes64, Missed>
-    requires page { page < length parts.old.pages.infos }
-    requires pages { page < (St.view st.old).pages }
-    requires not_free { Contains parts.old.pages.free page → ⊥ }
-    requires tag { IfSome (info_at parts.old.pages page).tag (λ tag. IsTag parts.old.cache tag) }
-    requires shown { page < parts.old.maps.pages }
-    requires used { is_unused ((St.view st.old).values page).usage ≡ false }
-    requires none_held { (St.view st.old).held ≡ None }
-    requires few { len ≤ MAX_BYTES }
-    requires within { off + len ≤ PAGE }
+    requires loads { CanLoad parts.old (St.view st.old) page }
+    requires bytes { IsInPage off len }
     ensures row { DoesAlone St.step (load_page parts.old page off len) st.old (parts.new, result) st.new }
     ensures none_held { (St.view st.new).held ≡ None }
     ensures answer { HasBeenFilled parts.old page (St.view st.old) → LoadAnswer parts.old page off len (St.view st.old) parts.new result (St.view st.new) }
@@ -115,13 +93,7 @@ fn run_store_through<St: Storage>(
     off: u32,
     bytes: &Bytes64,
 ) -> Result<(), Missed>
-    requires page { page < length parts.old.pages.infos }
-    requires pages { page < (St.view st.old).pages }
-    requires not_free { Contains parts.old.pages.free page → ⊥ }
-    requires tag { IfSome (info_at parts.old.pages page).tag (λ tag. IsTag parts.old.cache tag) }
-    requires shown { page < parts.old.maps.pages }
-    requires writable { can_store ((St.view st.old).values page).usage ≡ true }
-    requires none_held { (St.view st.old).held ≡ None }
+    requires stores { CanStore parts.old (St.view st.old) page }
     requires within { off + length bytes.now ≤ PAGE }
     ensures row { DoesAlone St.step (store_through parts.old page off bytes.now) st.old (parts.new, result) st.new }
     ensures none_held { (St.view st.new).held ≡ None }
@@ -150,13 +122,7 @@ pub fn store_through<St: Storage>(
     off: u32,
     bytes: &Bytes64,
 ) -> Result<(), Missed>
-    requires page { page < length parts.old.pages.infos }
-    requires pages { page < (St.view st.old).pages }
-    requires not_free { Contains parts.old.pages.free page → ⊥ }
-    requires tag { IfSome (info_at parts.old.pages page).tag (λ tag. IsTag parts.old.cache tag) }
-    requires shown { page < parts.old.maps.pages }
-    requires writable { can_store ((St.view st.old).values page).usage ≡ true }
-    requires none_held { (St.view st.old).held ≡ None }
+    requires stores { CanStore parts.old (St.view st.old) page }
     requires within { off + length bytes.now ≤ PAGE }
     ensures row { DoesAlone St.step (store_through parts.old page off bytes.now) st.old (parts.new, result) st.new }
     ensures none_held { (St.view st.new).held ≡ None }

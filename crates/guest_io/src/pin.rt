@@ -1,18 +1,16 @@
 // Pins of pages of mappings.
-ghost use Rattle.std.specs.Prelude.{◌≡◌, ◌<◌, ◌≤◌, ◌*◌, length, None, Some, false, Contains, IfSome};
+ghost use Rattle.std.specs.Prelude.{◌≡◌, ◌≤◌, ◌*◌, length, None, false};
 ghost use Rattle.cmm_types.specs.declared.plan.TheConstants.{MAX_MAPPING_SLOTS};
 ghost use Rattle.cmm_types.specs.declared.command.TheConstants.{MAX_MAPPING_PAGES};
 ghost use Rattle.cmm_storage.specs.Program.{DoesAlone};
-ghost use Rattle.guest_pages.specs.PagesView.{info_at};
-ghost use Rattle.guest_cache.specs.CacheView.{IsTag};
-ghost use Rattle.guest_maps.specs.MapsView.{IsPlace};
 ghost use Rattle.guest_rules.specs.Rows.{pins_after, pinned, pin_page};
+ghost use Rattle.guest_rules.specs.Calls.{IsInUse, CanTake, CanPin};
 ghost use Rattle.guest_rules.specs.Answers.{HasBeenFilled, PinAnswer};
 
 use cmm_storage::{Busy, Storage};
 use cmm_types::Why;
 use guest_hint::{make_stable, rehint};
-use guest_rules::{Missed, Parts};
+use guest_rules::{Parts, Placed};
 
 /// One pin more, or one less.
 fn pins_after(pins: bool, count: u32) -> u32
@@ -26,10 +24,8 @@ fn pins_after(pins: bool, count: u32) -> u32
 /// The place of the page is pinned, or isn't any more.
 #[tactic(auto, unfolding(guest_rules::specs::Rows::pinned))]
 fn set_pin(parts: &mut Parts, page: u32, slot: u32, index: u32, pins: bool)
-    requires page { page < length parts.old.pages.infos }
-    requires most { (info_at parts.old.pages page).pins ≤ MAX_MAPPING_SLOTS * MAX_MAPPING_PAGES }
-    requires some { pins ≡ false → 1 ≤ (info_at parts.old.pages page).pins }
-    requires place { IsPlace parts.old.maps slot index }
+    requires in_use { IsInUse parts.old page }
+    requires pin { CanPin parts.old page slot index pins }
     ensures value { parts.new ≡ pinned parts.old page slot index pins }
     ensures count { length parts.new.pages.infos ≡ length parts.old.pages.infos }
 {
@@ -47,33 +43,26 @@ fn run_pin_page<St: Storage>(
     slot: u32,
     index: u32,
     pins: bool,
-) -> Result<(), Missed>
-    requires page { page < length parts.old.pages.infos }
-    requires pages { page < (St.view st.old).pages }
-    requires not_free { Contains parts.old.pages.free page → ⊥ }
-    requires tag { IfSome (info_at parts.old.pages page).tag (λ tag. IsTag parts.old.cache tag) }
-    requires shown { page < parts.old.maps.pages }
-    requires most { (info_at parts.old.pages page).pins ≤ MAX_MAPPING_SLOTS * MAX_MAPPING_PAGES }
-    requires some { pins ≡ false → 1 ≤ (info_at parts.old.pages page).pins }
-    requires place { IsPlace parts.old.maps slot index }
-    requires none_held { (St.view st.old).held ≡ None }
+) -> Placed
+    requires takes { CanTake parts.old (St.view st.old) page }
+    requires pin { CanPin parts.old page slot index pins }
     ensures row { DoesAlone St.step (pin_page parts.old page slot index pins) st.old (parts.new, result) st.new }
     ensures none_held { (St.view st.new).held ≡ None }
 {
     match st.take(page) {
-        Err(Busy { word }) => Err(Missed::Again {
+        Err(Busy { word }) => Placed::Again {
             why: Why::Busy { page, word },
-        }),
+        },
         Ok(()) => match make_stable(parts, st, page) {
             Err(_) => {
                 st.put(page);
-                Err(Missed::Gone)
+                Placed::Gone
             }
             Ok(()) => {
                 set_pin(parts, page, slot, index, pins);
                 rehint(parts, st, page);
                 st.put(page);
-                Ok(())
+                Placed::Done
             }
         },
     }
@@ -88,16 +77,9 @@ pub fn pin_page<St: Storage>(
     slot: u32,
     index: u32,
     pins: bool,
-) -> Result<(), Missed>
-    requires page { page < length parts.old.pages.infos }
-    requires pages { page < (St.view st.old).pages }
-    requires not_free { Contains parts.old.pages.free page → ⊥ }
-    requires tag { IfSome (info_at parts.old.pages page).tag (λ tag. IsTag parts.old.cache tag) }
-    requires shown { page < parts.old.maps.pages }
-    requires most { (info_at parts.old.pages page).pins ≤ MAX_MAPPING_SLOTS * MAX_MAPPING_PAGES }
-    requires some { pins ≡ false → 1 ≤ (info_at parts.old.pages page).pins }
-    requires place { IsPlace parts.old.maps slot index }
-    requires none_held { (St.view st.old).held ≡ None }
+) -> Placed
+    requires takes { CanTake parts.old (St.view st.old) page }
+    requires pin { CanPin parts.old page slot index pins }
     ensures row { DoesAlone St.step (pin_page parts.old page slot index pins) st.old (parts.new, result) st.new }
     ensures none_held { (St.view st.new).held ≡ None }
     ensures answer { HasBeenFilled parts.old page (St.view st.old) → PinAnswer parts.old page slot index pins (St.view st.old) parts.new result (St.view st.new) }

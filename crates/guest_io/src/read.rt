@@ -1,11 +1,8 @@
-ghost use Rattle.std.specs.Prelude.{◌≡◌, ◌<◌, ◌≤◌, ◌+◌, length, None, Some, true, Contains, IfSome};
-ghost use Rattle.cmm_types.specs.declared.page.TheConstants.{PAGE};
-ghost use Rattle.cmm_types.specs.declared.bytes.TheConstants.{MAX_BYTES};
+ghost use Rattle.std.specs.Prelude.{◌≡◌, length, None, Some, true};
 ghost use Rattle.cmm_storage.specs.StorageCall.{Fetch};
 ghost use Rattle.cmm_storage.specs.Program.{DoesAlone};
-ghost use Rattle.guest_pages.specs.PagesView.{info_at};
-ghost use Rattle.guest_cache.specs.CacheView.{IsTag};
 ghost use Rattle.guest_rules.specs.Rows.{missed_by, read_page};
+ghost use Rattle.guest_rules.specs.Calls.{CanTake, IsInPage};
 ghost use Rattle.guest_rules.specs.Answers.{HasBeenFilled, ReadAnswer};
 
 use cmm_storage::{Busy, Storage, Trap};
@@ -29,8 +26,7 @@ pub(crate) fn missed_by(trap: Trap) -> Missed
 pub(crate) fn fetch<St: Storage>(st: &mut St, page: u32, off: u32, len: u32) -> Bytes64
     requires held { (St.view st.old).held ≡ Some page }
     requires touched { (St.view st.old).touched ≡ true }
-    requires few { len ≤ MAX_BYTES }
-    requires within { off + len ≤ PAGE }
+    requires bytes { IsInPage off len }
     ensures size { length result ≡ len }
     ensures step { St.step st.old (Fetch page off result) st.new }
     ensures held { (St.view st.new).held ≡ Some page }
@@ -50,14 +46,8 @@ fn run_read_page<St: Storage>(
     off: u32,
     len: u32,
 ) -> Result<Bytes64, Missed>
-    requires page { page < length parts.old.pages.infos }
-    requires pages { page < (St.view st.old).pages }
-    requires not_free { Contains parts.old.pages.free page → ⊥ }
-    requires tag { IfSome (info_at parts.old.pages page).tag (λ tag. IsTag parts.old.cache tag) }
-    requires shown { page < parts.old.maps.pages }
-    requires none_held { (St.view st.old).held ≡ None }
-    requires few { len ≤ MAX_BYTES }
-    requires within { off + len ≤ PAGE }
+    requires takes { CanTake parts.old (St.view st.old) page }
+    requires bytes { IsInPage off len }
     ensures row { DoesAlone St.step (read_page parts.old page off len) st.old (parts.new, result) st.new }
     ensures none_held { (St.view st.new).held ≡ None }
 {
@@ -95,14 +85,8 @@ pub fn read_page<St: Storage>(
     off: u32,
     len: u32,
 ) -> Result<Bytes64, Missed>
-    requires page { page < length parts.old.pages.infos }
-    requires pages { page < (St.view st.old).pages }
-    requires not_free { Contains parts.old.pages.free page → ⊥ }
-    requires tag { IfSome (info_at parts.old.pages page).tag (λ tag. IsTag parts.old.cache tag) }
-    requires shown { page < parts.old.maps.pages }
-    requires none_held { (St.view st.old).held ≡ None }
-    requires few { len ≤ MAX_BYTES }
-    requires within { off + len ≤ PAGE }
+    requires takes { CanTake parts.old (St.view st.old) page }
+    requires bytes { IsInPage off len }
     ensures row { DoesAlone St.step (read_page parts.old page off len) st.old (parts.new, result) st.new }
     ensures none_held { (St.view st.new).held ≡ None }
     ensures answer { HasBeenFilled parts.old page (St.view st.old) → ReadAnswer parts.old page off len (St.view st.old) parts.new result (St.view st.new) }

@@ -1,26 +1,23 @@
 // A page of a file whose sync looks whether it is dirty, and writes it back.
-ghost use Rattle.std.specs.Prelude.{◌≡◌, ◌<◌, length, None, Some, Ok, Err, false, Contains, IfSome};
+ghost use Rattle.std.specs.Prelude.{◌≡◌, ◌<◌, length, None, Ok, Err, IfSome};
 ghost use Rattle.cmm_types.specs.declared.page.TheConstants.{PAGE};
-ghost use Rattle.essa_state.specs.StateWord.{is_unused};
 ghost use Rattle.cmm_storage.specs.Program.{Does, DoesAlone};
 ghost use Rattle.guest_pages.specs.PagesView.{info_at};
-ghost use Rattle.guest_cache.specs.CacheView.{IsTag};
-ghost use Rattle.guest_rules.specs.Rows.{backing_at};
+ghost use Rattle.guest_rules.specs.Calls.{IsHeld, CanTake, CanWriteBack};
 ghost use Rattle.guest_rules.specs.Syncs.{sync_known, sync_page, stay_dirty, back_written, back_fetched, back_touched, write_back};
 ghost use Rattle.guest_rules.specs.Answers.{HasBeenFilled, IsToBeWritten, SyncAnswer, BackAnswer};
 
 use cmm_io::Disk;
 use cmm_storage::{Busy, Storage, Trap};
 use cmm_types::{Cause, PAGE, Why};
-use guest_hint::{backing, make_stable, rehint};
+use guest_hint::{backing, make_stable, mark_changed, rehint};
 use guest_rules::{Filled, Parts, Synced};
 
 /// The held page, whose change bit has moved into what is known of it, is locked by the processor where it is dirty,
 /// and given back.
 #[tactic(auto, using(cmm_storage::specs::Runs::runs), unfolding(guest_rules::specs::Syncs::locked))]
 fn lock_dirty<St: Storage>(parts: &mut Parts, st: &mut St, cpu: u32, page: u32) -> Synced
-    requires page { page < length parts.old.pages.infos }
-    requires held { (St.view st.old).held ≡ Some page }
+    requires held { IsHeld parts.old (St.view st.old) page }
     ensures row { DoesAlone St.step (sync_known page cpu parts.old (info_at parts.old.pages page).dirty) st.old (parts.new, result) st.new }
     ensures none_held { (St.view st.new).held ≡ None }
 {
@@ -38,12 +35,7 @@ fn lock_dirty<St: Storage>(parts: &mut Parts, st: &mut St, cpu: u32, page: u32) 
 /// The look, as its program says.
 #[tactic(auto, using(cmm_storage::specs::Runs::runs), unfolding(guest_rules::specs::Syncs::sync_page))]
 fn run_sync_page<St: Storage>(parts: &mut Parts, st: &mut St, cpu: u32, page: u32) -> Synced
-    requires page { page < length parts.old.pages.infos }
-    requires pages { page < (St.view st.old).pages }
-    requires not_free { Contains parts.old.pages.free page → ⊥ }
-    requires tag { IfSome (info_at parts.old.pages page).tag (λ tag. IsTag parts.old.cache tag) }
-    requires shown { page < parts.old.maps.pages }
-    requires none_held { (St.view st.old).held ≡ None }
+    requires takes { CanTake parts.old (St.view st.old) page }
     ensures row { DoesAlone St.step (sync_page parts.old page cpu) st.old (parts.new, result) st.new }
     ensures none_held { (St.view st.new).held ≡ None }
 {
@@ -60,12 +52,8 @@ fn run_sync_page<St: Storage>(parts: &mut Parts, st: &mut St, cpu: u32, page: u3
                 Synced::Gone
             }
             Ok(()) => {
-                if st.take_change(page) {
-                    parts.pages.set_dirty(page, true);
-                    lock_dirty(parts, st, cpu, page)
-                } else {
-                    lock_dirty(parts, st, cpu, page)
-                }
+                mark_changed(parts, st, page);
+                lock_dirty(parts, st, cpu, page)
             }
         },
     }
@@ -73,12 +61,7 @@ fn run_sync_page<St: Storage>(parts: &mut Parts, st: &mut St, cpu: u32, page: u3
 
 /// Looks at a page with a tag for a sync of its file by a processor: a dirty page is locked, to be written back.
 pub fn sync_page<St: Storage>(parts: &mut Parts, st: &mut St, cpu: u32, page: u32) -> Synced
-    requires page { page < length parts.old.pages.infos }
-    requires pages { page < (St.view st.old).pages }
-    requires not_free { Contains parts.old.pages.free page → ⊥ }
-    requires tag { IfSome (info_at parts.old.pages page).tag (λ tag. IsTag parts.old.cache tag) }
-    requires shown { page < parts.old.maps.pages }
-    requires none_held { (St.view st.old).held ≡ None }
+    requires takes { CanTake parts.old (St.view st.old) page }
     ensures row { DoesAlone St.step (sync_page parts.old page cpu) st.old (parts.new, result) st.new }
     ensures none_held { (St.view st.new).held ≡ None }
     ensures answer { HasBeenFilled parts.old page (St.view st.old) → SyncAnswer parts.old page cpu (St.view st.old) parts.new result (St.view st.new) }
@@ -89,8 +72,7 @@ pub fn sync_page<St: Storage>(parts: &mut Parts, st: &mut St, cpu: u32, page: u3
 /// The held page, which is locked, couldn't be written back: it stays dirty, and is unlocked and given back.
 #[tactic(auto, using(cmm_storage::specs::Runs::runs), unfolding(guest_rules::specs::Syncs::unlocked))]
 fn stay_dirty<St: Storage>(parts: &mut Parts, st: &mut St, page: u32, cause: Cause) -> Filled
-    requires page { page < length parts.old.pages.infos }
-    requires held { (St.view st.old).held ≡ Some page }
+    requires held { IsHeld parts.old (St.view st.old) page }
     ensures row { DoesAlone St.step (stay_dirty parts.old page cause) st.old (parts.new, result) st.new }
     ensures none_held { (St.view st.new).held ≡ None }
 {
@@ -104,8 +86,7 @@ fn stay_dirty<St: Storage>(parts: &mut Parts, st: &mut St, page: u32, cause: Cau
 /// stored to it since it was locked makes it dirty again.
 #[tactic(auto, using(cmm_storage::specs::Runs::runs), unfolding(guest_rules::specs::Syncs::cleaned))]
 fn come_clean<St: Storage>(parts: &mut Parts, st: &mut St, page: u32) -> Filled
-    requires page { page < length parts.old.pages.infos }
-    requires held { (St.view st.old).held ≡ Some page }
+    requires held { IsHeld parts.old (St.view st.old) page }
     ensures row { DoesAlone St.step (back_written parts.old page (Ok tt)) st.old (parts.new, result) st.new }
     ensures none_held { (St.view st.new).held ≡ None }
 {
@@ -119,8 +100,7 @@ fn come_clean<St: Storage>(parts: &mut Parts, st: &mut St, page: u32) -> Filled
 /// The touch of the held page, which is locked, failed.
 #[tactic(auto, using(cmm_storage::specs::Runs::runs))]
 fn miss<St: Storage>(parts: &mut Parts, st: &mut St, page: u32, trap: Trap) -> Filled
-    requires page { page < length parts.old.pages.infos }
-    requires held { (St.view st.old).held ≡ Some page }
+    requires held { IsHeld parts.old (St.view st.old) page }
     ensures row { DoesAlone St.step (back_touched parts.old page (Err trap)) st.old (parts.new, result) st.new }
     ensures none_held { (St.view st.new).held ≡ None }
 {
@@ -137,7 +117,7 @@ fn miss<St: Storage>(parts: &mut Parts, st: &mut St, page: u32, trap: Trap) -> F
 }
 
 /// Writes the bytes of the held page to its block. A page without one is never locked to be written back.
-#[tactic(auto, using(cmm_storage::specs::Runs::runs, guest_hint::specs::RunLaws::does_alone))]
+#[tactic(auto, using(cmm_storage::specs::Runs::runs, guest_hint::specs::Laws::RunLaws::does_alone))]
 fn write_to<St: Storage, D: Disk>(
     parts: &mut Parts,
     st: &mut St,
@@ -146,9 +126,8 @@ fn write_to<St: Storage, D: Disk>(
     block: Option<u32>,
     bytes: &[u8],
 ) -> Filled
-    requires page { page < length parts.old.pages.infos }
+    requires held { IsHeld parts.old (St.view st.old) page }
     requires block { IfSome block (λ number. number < (D.view disk.old).count) }
-    requires held { (St.view st.old).held ≡ Some page }
     requires whole { length bytes.now ≡ PAGE }
     ensures row { Does St.step D.step (back_fetched parts.old page block bytes.now) st.old disk.old (parts.new, result) st.new disk.new }
     ensures none_held { (St.view st.new).held ≡ None }
@@ -163,19 +142,14 @@ fn write_to<St: Storage, D: Disk>(
 }
 
 /// The writing back, as its program says.
-#[tactic(auto, using(cmm_storage::specs::Runs::runs, guest_hint::specs::RunLaws::does_alone), unfolding(guest_rules::specs::Syncs::write_back))]
+#[tactic(auto, using(cmm_storage::specs::Runs::runs, guest_hint::specs::Laws::RunLaws::does_alone), unfolding(guest_rules::specs::Syncs::write_back))]
 fn run_write_back<St: Storage, D: Disk>(
     parts: &mut Parts,
     st: &mut St,
     disk: &mut D,
     page: u32,
 ) -> Filled
-    requires page { page < length parts.old.pages.infos }
-    requires pages { page < (St.view st.old).pages }
-    requires tag { IfSome (info_at parts.old.pages page).tag (λ tag. IsTag parts.old.cache tag) }
-    requires block { IfSome (backing_at parts.old page) (λ block. block < (D.view disk.old).count) }
-    requires used { is_unused ((St.view st.old).values page).usage ≡ false }
-    requires none_held { (St.view st.old).held ≡ None }
+    requires writes { CanWriteBack parts.old (St.view st.old) (D.view disk.old) page }
     ensures row { Does St.step D.step (write_back parts.old page) st.old disk.old (parts.new, result) st.new disk.new }
     ensures none_held { (St.view st.new).held ≡ None }
 {
@@ -203,12 +177,7 @@ pub fn write_back<St: Storage, D: Disk>(
     disk: &mut D,
     page: u32,
 ) -> Filled
-    requires page { page < length parts.old.pages.infos }
-    requires pages { page < (St.view st.old).pages }
-    requires tag { IfSome (info_at parts.old.pages page).tag (λ tag. IsTag parts.old.cache tag) }
-    requires block { IfSome (backing_at parts.old page) (λ block. block < (D.view disk.old).count) }
-    requires used { is_unused ((St.view st.old).values page).usage ≡ false }
-    requires none_held { (St.view st.old).held ≡ None }
+    requires writes { CanWriteBack parts.old (St.view st.old) (D.view disk.old) page }
     ensures row { Does St.step D.step (write_back parts.old page) st.old disk.old (parts.new, result) st.new disk.new }
     ensures none_held { (St.view st.new).held ≡ None }
     ensures answer { IsToBeWritten parts.old page (St.view st.old) → BackAnswer parts.old page (St.view st.old) (D.view disk.old) parts.new result (St.view st.new) (D.view disk.new) }

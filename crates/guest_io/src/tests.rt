@@ -8,7 +8,7 @@ use essa_state::Order;
 use guest_cache::Cache;
 use guest_maps::{Maps, Shown};
 use guest_pages::Pages;
-use guest_rules::{Missed, Parts};
+use guest_rules::{Missed, Parts, Placed};
 use std::alloc::{AllocError, Global};
 use std::test::Fail;
 
@@ -136,8 +136,8 @@ fn a_writer_leaves_the_page_dirty_where_it_wrote(rt: HostRuntime) -> Result<(), 
 
 /// What a pin of the only place of a mapping answers, and the next free page then. The page is the place's, and the
 /// first two noises come before the pin.
-#[tactic(auto, using(guest_maps::specs::MapsLaws::places_kept), unfolding(guest_pages::specs::PagesView::popped))]
-fn pin(alloc: Global, noises: [Noise; 4]) -> Result<(Result<(), Missed>, Option<u32>), AllocError> {
+#[tactic(auto, using(guest_maps::specs::Laws::MapsLaws::places_kept), unfolding(guest_pages::specs::PagesView::popped))]
+fn pin(alloc: Global, noises: [Noise; 4]) -> Result<(Placed, Option<u32>), AllocError> {
     let mut parts = Parts {
         pages: Pages::open(alloc, 1)?,
         cache: Cache::open(alloc, &[], 0, 0)?,
@@ -161,17 +161,17 @@ fn pin(alloc: Global, noises: [Noise; 4]) -> Result<(Result<(), Missed>, Option<
 fn a_pin_meets_every_answer(rt: HostRuntime) -> Result<(), Fail> {
     use Noise::{Busy, Calm, Discard};
     let alloc = rt.alloc();
-    assert_eq!(rt; pin(alloc, [Calm, Calm, Calm, Calm])?, (Ok(()), None));
+    assert_eq!(rt; pin(alloc, [Calm, Calm, Calm, Calm])?, (Placed::Done, None));
     assert_eq!(rt;
         pin(alloc, [Calm, Calm, Discard, Calm])?,
-        (Err(Missed::Gone), Some(0))
+        (Placed::Gone, Some(0))
     );
     let (answer, free) = pin(alloc, [Calm, Calm, Busy, Calm])?;
     let busy = matches!(
         answer,
-        Err(Missed::Again {
+        Placed::Again {
             why: Why::Busy { page: 0, word: _ }
-        })
+        }
     );
     assert_eq!(rt; (busy, free), (true, None));
     Ok(())

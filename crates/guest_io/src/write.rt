@@ -1,10 +1,9 @@
 // Bytes that are written to a page.
-ghost use Rattle.std.specs.Prelude.{◌≡◌, ◌<◌, ◌≤◌, ◌+◌, length, None, Contains, IfSome};
+ghost use Rattle.std.specs.Prelude.{◌≡◌, ◌≤◌, ◌+◌, length, None};
 ghost use Rattle.cmm_types.specs.declared.page.TheConstants.{PAGE};
 ghost use Rattle.cmm_storage.specs.Program.{DoesAlone};
-ghost use Rattle.guest_pages.specs.PagesView.{info_at};
-ghost use Rattle.guest_cache.specs.CacheView.{IsTag};
 ghost use Rattle.guest_rules.specs.Rows.{write_page};
+ghost use Rattle.guest_rules.specs.Calls.{CanTake};
 ghost use Rattle.guest_rules.specs.Answers.{HasBeenFilled, WriteAnswer};
 
 use crate::read::missed_by;
@@ -22,12 +21,7 @@ fn run_write_page<St: Storage>(
     off: u32,
     from: &Bytes64,
 ) -> Result<(), Missed>
-    requires page { page < length parts.old.pages.infos }
-    requires pages { page < (St.view st.old).pages }
-    requires not_free { Contains parts.old.pages.free page → ⊥ }
-    requires tag { IfSome (info_at parts.old.pages page).tag (λ tag. IsTag parts.old.cache tag) }
-    requires shown { page < parts.old.maps.pages }
-    requires none_held { (St.view st.old).held ≡ None }
+    requires takes { CanTake parts.old (St.view st.old) page }
     requires within { off + length from.now ≤ PAGE }
     ensures row { DoesAlone St.step (write_page parts.old page off from.now) st.old (parts.new, result) st.new }
     ensures none_held { (St.view st.new).held ≡ None }
@@ -68,12 +62,7 @@ pub fn write_page<St: Storage>(
     off: u32,
     from: &Bytes64,
 ) -> Result<(), Missed>
-    requires page { page < length parts.old.pages.infos }
-    requires pages { page < (St.view st.old).pages }
-    requires not_free { Contains parts.old.pages.free page → ⊥ }
-    requires tag { IfSome (info_at parts.old.pages page).tag (λ tag. IsTag parts.old.cache tag) }
-    requires shown { page < parts.old.maps.pages }
-    requires none_held { (St.view st.old).held ≡ None }
+    requires takes { CanTake parts.old (St.view st.old) page }
     requires within { off + length from.now ≤ PAGE }
     ensures row { DoesAlone St.step (write_page parts.old page off from.now) st.old (parts.new, result) st.new }
     ensures none_held { (St.view st.new).held ≡ None }

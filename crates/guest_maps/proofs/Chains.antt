@@ -36,7 +36,8 @@ record HasLeft (shown first next before shown' first' next' before' : ℕ → Op
   first_others : (other : ℕ) → other ≢ page → first' other ≡ first other
   first_same : (k : ℕ) → b ≡ Some k → first' page ≡ first page
 
-left : (shown first next before shown' first' next' before' : ℕ → Option ℕ) (rank : ℕ → ℕ) (p page : ℕ) (b n : Option ℕ) → AreChains shown first next before rank → shown p ≡ Some page → before p ≡ b → next p ≡ n → HasLeft shown first next before shown' first' next' before' p page b n → AreChains shown' first' next' before' rank
+left : (shown first next before shown' first' next' before' : ℕ → Option ℕ) (rank : ℕ → ℕ) (p page : ℕ) (b n : Option ℕ) → AreChains shown first next before rank → shown p ≡ Some page → before p ≡ b
+    → next p ≡ n → HasLeft shown first next before shown' first' next' before' p page b n → AreChains shown' first' next' before' rank
 left shown first next before shown' first' next' before' rank p page b n chains at at_b at_n after =
     record {
       follows = λ k later leads. follows k later leads (not_p k later leads) (cases_some b k);
@@ -147,7 +148,8 @@ raised_other : (rank : ℕ → ℕ) (p k : ℕ) → k ≢ p → raised rank p k 
 unfolding raised
 raised_other rank p k apart = ap (λ b. cond b 0 (suc (rank k))) (ne_eqb k p apart)
 
-joined : (shown first next before shown' first' next' before' : ℕ → Option ℕ) (rank : ℕ → ℕ) (p page : ℕ) (n : Option ℕ) → AreChains shown first next before rank → shown p ≡ None → first page ≡ n → HasJoined shown first next before shown' first' next' before' p page n → AreChains shown' first' next' before' (raised rank p)
+joined : (shown first next before shown' first' next' before' : ℕ → Option ℕ) (rank : ℕ → ℕ) (p page : ℕ) (n : Option ℕ) → AreChains shown first next before rank → shown p ≡ None → first page ≡ n
+    → HasJoined shown first next before shown' first' next' before' p page n → AreChains shown' first' next' before' (raised rank p)
 joined shown first next before shown' first' next' before' rank p page n chains at at_n after =
     record {
       follows = λ k later leads. follows k later leads (cases_eq k p);
@@ -233,11 +235,14 @@ some_within : (xs : List (Option ℕ)) (k x : ℕ) → get_or xs k None ≡ Some
 some_within xs k x is = ⊎_elim (λ below. below) (λ past. absurd (not_none x (get_or xs k None) is (get_or_past xs k None past))) (cases_lt k (length xs))
 
 pub shown_within : (entries : List (Option Pte)) (k page : ℕ) → page_shown (get_or entries k None) ≡ Some page → k < length entries
-shown_within entries k page is = ⊎_elim (λ below. below) (λ past. absurd (not_none page (page_shown (get_or entries k None)) is (ap page_shown (get_or_past entries k None past)))) (cases_lt k (length entries))
+shown_within entries k page is =
+    ⊎_elim (λ below. below) (λ past. absurd (not_none page (page_shown (get_or entries k None)) is (ap page_shown (get_or_past entries k None past)))) (cases_lt k (length entries))
 
 -- ---- an entry is cleared
 
-pub HasChains-cleared : (entries : List (Option Pte)) (first next before : List (Option ℕ)) (p page : ℕ) (b n : Option ℕ) → HasChains entries first next before → page_shown (get_or entries p None) ≡ Some page → get_or before p None ≡ b → get_or next p None ≡ n → HasChains (set entries p None) (first_with first page b n) (set (set_at next b n) p None) (set_at before n b)
+pub HasChains-cleared : (entries : List (Option Pte)) (first next before : List (Option ℕ)) (p page : ℕ) (b n : Option ℕ) → HasChains entries first next before
+    → page_shown (get_or entries p None) ≡ Some page → get_or before p None ≡ b → get_or next p None ≡ n
+    → HasChains (set entries p None) (first_with first page b n) (set (set_at next b n) p None) (set_at before n b)
 HasChains-cleared entries first next before p page b n kept at at_b at_n =
     record {
       next_whole = omega (arith, length-set (set_at next b n) p None, length-set_at next b n, length-set entries p None, kept.next_whole);
@@ -258,7 +263,10 @@ HasChains-cleared entries first next before p page b n kept at at_b at_n =
     not_p : (k other : ℕ) → page_shown (get_or (set entries p None) k None) ≡ Some other → k ≢ p
     not_p k other there same = not_none other _ there (ap (λ i. page_shown (get_or (set entries p None) i None)) same ∙ gone)
 
-    after : (rank : ℕ → ℕ) → AreLinked entries first next before rank → HasLeft (λ k. page_shown (get_or entries k None)) (λ other. get_or first other None) (λ k. get_or next k None) (λ k. get_or before k None) (λ k. page_shown (get_or (set entries p None) k None)) (λ other. get_or (first_with first page b n) other None) (λ k. get_or (set (set_at next b n) p None) k None) (λ k. get_or (set_at before n b) k None) p page b n
+    after : (rank : ℕ → ℕ) → AreLinked entries first next before rank
+        → HasLeft (λ k. page_shown (get_or entries k None)) (λ other. get_or first other None) (λ k. get_or next k None) (λ k. get_or before k None)
+        (λ k. page_shown (get_or (set entries p None) k None)) (λ other. get_or (first_with first page b n) other None) (λ k. get_or (set (set_at next b n) p None) k None)
+        (λ k. get_or (set_at before n b) k None) p page b n
     after rank chains = record {
       gone = gone;
       others = others;
@@ -274,7 +282,9 @@ HasChains-cleared entries first next before p page b n kept at at_b at_n =
 
 -- ---- an entry is made
 
-pub HasChains-made : (entries : List (Option Pte)) (first next before : List (Option ℕ)) (p : ℕ) (pte : Pte) (n : Option ℕ) → HasChains entries first next before → p < length entries → get_or entries p None ≡ None → pte.page < length first → get_or first pte.page None ≡ n → HasChains (set entries p (Some pte)) (set first pte.page (Some p)) (set next p n) (set (set_at before n (Some p)) p None)
+pub HasChains-made : (entries : List (Option Pte)) (first next before : List (Option ℕ)) (p : ℕ) (pte : Pte) (n : Option ℕ) → HasChains entries first next before → p < length entries
+    → get_or entries p None ≡ None → pte.page < length first → get_or first pte.page None ≡ n
+    → HasChains (set entries p (Some pte)) (set first pte.page (Some p)) (set next p n) (set (set_at before n (Some p)) p None)
 HasChains-made entries first next before p pte n kept within empty page_within at_n =
     record {
       next_whole = omega (arith, length-set next p n, length-set entries p (Some pte), kept.next_whole);
@@ -293,14 +303,19 @@ HasChains-made entries first next before p pte n kept within empty page_within a
     in_range k other there (inl same) = omega (arith, some_exact other pte.page (sym there ∙ ap (λ i. page_shown (get_or (set entries p (Some pte)) i None)) same ∙ here))
     in_range k other there (inr apart) = kept.in_range k other (sym (others k apart) ∙ there)
 
-    after : (rank : ℕ → ℕ) → AreLinked entries first next before rank → HasJoined (λ k. page_shown (get_or entries k None)) (λ other. get_or first other None) (λ k. get_or next k None) (λ k. get_or before k None) (λ k. page_shown (get_or (set entries p (Some pte)) k None)) (λ other. get_or (set first pte.page (Some p)) other None) (λ k. get_or (set next p n) k None) (λ k. get_or (set (set_at before n (Some p)) p None) k None) p pte.page n
+    after : (rank : ℕ → ℕ) → AreLinked entries first next before rank
+        → HasJoined (λ k. page_shown (get_or entries k None)) (λ other. get_or first other None) (λ k. get_or next k None) (λ k. get_or before k None)
+        (λ k. page_shown (get_or (set entries p (Some pte)) k None)) (λ other. get_or (set first pte.page (Some p)) other None) (λ k. get_or (set next p n) k None)
+        (λ k. get_or (set (set_at before n (Some p)) p None) k None) p pte.page n
     after rank chains = record {
       here = here;
       others = others;
       next_here = get_or-set_same next p n None (omega (arith, kept.next_whole));
       next_others = λ k apart. get_or-set_other next p k n None apart;
       before_here = get_or-set_same (set_at before n (Some p)) p None None (omega (arith, length-set_at before n (Some p), kept.before_whole));
-      before_of = λ k apart is. get_or-set_other (set_at before n (Some p)) p k None None apart ∙ set_at_same before n (Some p) k is (omega (arith, kept.before_whole, shown_within entries k pte.page (chains.starts pte.page k (at_n ∙ is)).0));
+      before_of =
+          λ k apart is. get_or-set_other (set_at before n (Some p)) p k None None apart
+          ∙ set_at_same before n (Some p) k is (omega (arith, kept.before_whole, shown_within entries k pte.page (chains.starts pte.page k (at_n ∙ is)).0));
       before_others = λ k apart is_not. get_or-set_other (set_at before n (Some p)) p k None None apart ∙ set_at_other before n (Some p) k is_not;
       first_here = get_or-set_same first pte.page (Some p) None page_within;
       first_others = λ other apart. get_or-set_other first pte.page other (Some p) None apart;
@@ -335,7 +350,8 @@ none_counted p d (x ∷ xs) none =
     ∙ zero-add (count_by p xs)
     ∙ none_counted p d xs (λ k. none (suc k))
 
-pub first_shows : (entries : List (Option Pte)) (first next before : List (Option ℕ)) (page : ℕ) (o : Option ℕ) → HasChains entries first next before → get_or first page None ≡ o → MatchOption o (count_by (shows page) entries ≡ 0) (λ place. shows page (get_or entries place None) ≡ true)
+pub first_shows : (entries : List (Option Pte)) (first next before : List (Option ℕ)) (page : ℕ) (o : Option ℕ) → HasChains entries first next before → get_or first page None ≡ o
+    → MatchOption o (count_by (shows page) entries ≡ 0) (λ place. shows page (get_or entries place None) ≡ true)
 first_shows entries first next before page (Some place) kept is = ∥∥₁_elim kept.linked (hlevel props) (λ (rank, chains). shows_page page (get_or entries place None) (chains.starts page place is).0)
 first_shows entries first next before page None kept is =
     ∥∥₁_elim kept.linked (hlevel props)
@@ -344,7 +360,8 @@ first_shows entries first next before page None kept is =
 -- ---- the links that the functions on entries follow
 
 -- the places before and after an entry in its chain are places
-pub links_within : (entries : List (Option Pte)) (first next before : List (Option ℕ)) (p page : ℕ) → HasChains entries first next before → page_shown (get_or entries p None) ≡ Some page → IfSome (get_or before p None) (λ k. k < length next) × IfSome (get_or next p None) (λ k. k < length before)
+pub links_within : (entries : List (Option Pte)) (first next before : List (Option ℕ)) (p page : ℕ) → HasChains entries first next before → page_shown (get_or entries p None) ≡ Some page
+    → IfSome (get_or before p None) (λ k. k < length next) × IfSome (get_or next p None) (λ k. k < length before)
 links_within entries first next before p page kept at =
     ∥∥₁_elim kept.linked (hlevel props)
     (λ (rank, chains). (earlier rank chains (get_or before p None) refl, later rank chains (get_or next p None) refl))
@@ -370,7 +387,10 @@ pub whole_changed : {X : Type 0} (len : ℕ) (new old : List X) → length new �
 whole_changed len new old same = take_at new (drop (length new) old) len same
 
 -- an entry is cleared, as read: it is x, with b before it and n after it
-pub cleared : (entries : List (Option Pte)) (first next before : List (Option ℕ)) (p : ℕ) (x : Option Pte) (pte : Pte) (b n : Option ℕ) → HasChains entries first next before → p < length entries → x ≡ get_or entries p x → x ≡ Some pte → b ≡ get_or before p b → n ≡ get_or next p n → (pte.page < length first) × IfSome b (λ k. k < length next) × IfSome n (λ k. k < length before) × HasChains (set entries p None) (first_with first pte.page b n) (set (set_at next b n) p None) (set_at before n b)
+pub cleared : (entries : List (Option Pte)) (first next before : List (Option ℕ)) (p : ℕ) (x : Option Pte) (pte : Pte) (b n : Option ℕ) → HasChains entries first next before → p < length entries
+    → x ≡ get_or entries p x → x ≡ Some pte → b ≡ get_or before p b → n ≡ get_or next p n
+    → (pte.page < length first) × IfSome b (λ k. k < length next) × IfSome n (λ k. k < length before)
+    × HasChains (set entries p None) (first_with first pte.page b n) (set (set_at next b n) p None) (set_at before n b)
 cleared entries first next before p x pte b n kept within read is read_b read_n =
     let at : page_shown (get_or entries p None) ≡ Some pte.page = ap page_shown (sym (get_or_read entries p x within read None) ∙ is) in
     let at_b : get_or before p None ≡ b = sym (get_or_read before p b (omega (arith, kept.before_whole)) read_b None) in
@@ -386,9 +406,11 @@ cleared entries first next before p x pte b n kept within read is read_b read_n 
 pub cleared_none : (entries : List (Option Pte)) (p : ℕ) (x : Option Pte) → p < length entries → x ≡ get_or entries p x → x ≡ None → set entries p None ≡ entries
 cleared_none entries p x within read is = ap (set entries p) (sym is ∙ get_or_read entries p x within read None) ∙ set-get_or entries p None
 
-pub same_chains : {entries : List (Option Pte)} {first first' next next' before before' : List (Option ℕ)} → first' ≡ first → next' ≡ next → before' ≡ before → HasChains entries first next before → HasChains entries first' next' before'
+pub same_chains : {entries : List (Option Pte)} {first first' next next' before before' : List (Option ℕ)} → first' ≡ first → next' ≡ next → before' ≡ before → HasChains entries first next before
+    → HasChains entries first' next' before'
 same_chains {entries = entries} {first = first} {first' = first'} {next = next} {next' = next'} {before = before} is_first is_next is_before kept =
-    subst (λ xs. HasChains entries first' next' xs) (sym is_before) (subst (λ xs. HasChains entries first' xs before) (sym is_next) (subst (λ xs. HasChains entries xs next before) (sym is_first) kept))
+    subst (λ xs. HasChains entries first' next' xs) (sym is_before)
+    (subst (λ xs. HasChains entries first' xs before) (sym is_next) (subst (λ xs. HasChains entries xs next before) (sym is_first) kept))
 
 pub HasChains-opening : (pages places : ℕ) → HasChains (replicate places None) (replicate pages None) (replicate places None) (replicate places None)
 HasChains-opening pages places =

@@ -24,7 +24,8 @@ pub record AreChains (shown first next before : ℕ → Option ℕ) (rank : ℕ 
 
 -- the chains of lists
 abbrev pub AreLinked : List (Option Pte) → List (Option ℕ) → List (Option ℕ) → List (Option ℕ) → (ℕ → ℕ) → Type 0
-AreLinked entries first next before rank = AreChains (λ k. page_shown (slice_index_or entries k None)) (λ page. slice_index_or first page None) (λ k. slice_index_or next k None) (λ k. slice_index_or before k None) rank
+AreLinked entries first next before rank =
+    AreChains (λ k. page_shown (slice_index_or entries k None)) (λ page. slice_index_or first page None) (λ k. slice_index_or next k None) (λ k. slice_index_or before k None) rank
 
 pub record HasChains (entries : List (Option Pte)) (first next before : List (Option ℕ)) : Type 0 where
   pub next_whole : length next ≡ length entries

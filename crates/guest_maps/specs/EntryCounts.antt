@@ -1,7 +1,7 @@
 -- Laws of how many entries show a page, where an entry is set, or those of a page are gone.
-use Rattle.std.proofs.Common.{◌≡◌, ◌≢◌, ℕ, zero, suc, ◌+◌, ◌<◌, ◌≤◌, Bool, true, false, cond, List, [], ◌∷◌, length, set, get_or, map, replicate, zero-add, Option, Some, None, ◌⊎◌, inl, inr, refl, sym, ap, ◌∙◌, arith, ⊎_elim, count_by}
+use Rattle.std.proofs.Common.{◌≡◌, ◌≢◌, ℕ, zero, suc, ◌+◌, ◌<◌, ◌≤◌, Bool, true, false, cond, List, [], ◌∷◌, length, set, get_or, map, replicate, zero-add, Option, Some, None, ◌⊎◌, refl, sym, ap, ◌∙◌, arith, ⊎_elim, count_by}
 use Rattle.std.proofs.lemmas.List.{get_or_past}
-use Rattle.std.proofs.lemmas.List.Sums.{sum_by-cons, sum_by-set, sum_by-le-sum_by, get_or-le-sum_by}
+use Rattle.std.proofs.lemmas.List.Sums.{sum_by-cons, sum_by-set, get_or-le-sum_by}
 use Rattle.std.proofs.lemmas.Bool.{cases_Bool, cases_lt, cond-true, cond-false, eqb-true, both_ways, and_parts, false_from_ne_true}
 use Rattle.guest_maps.specs.declared.slot.Pte.{Pte}
 use Rattle.guest_maps.specs.MapsView.{one_if, shows, stores_to, unless_shows}
@@ -28,7 +28,8 @@ unless_shows-other page entry is = cond-false (shows page entry) None entry is
 -- ---- a test counted in a list
 
 -- an entry in place of another
-pub count_by-set : (p : Option Pte → Bool) (entries : List (Option Pte)) (k : ℕ) (entry : Option Pte) → k < length entries → count_by p (set entries k entry) + one_if (p (get_or entries k None)) ≡ count_by p entries + one_if (p entry)
+pub count_by-set : (p : Option Pte → Bool) (entries : List (Option Pte)) (k : ℕ) (entry : Option Pte) → k < length entries
+    → count_by p (set entries k entry) + one_if (p (get_or entries k None)) ≡ count_by p entries + one_if (p entry)
 count_by-set p entries k entry within = sum_by-set (λ x. cond (p x) 1 0) entries k entry None within
 
 passes_within : (p : Option Pte → Bool) (entries : List (Option Pte)) (k : ℕ) → p None ≡ false → p (get_or entries k None) ≡ true → k < length entries
@@ -47,13 +48,6 @@ showing-cleared page entries k is = omega (arith, count_by-set (shows page) entr
 pub none_shows : (page : ℕ) (entries : List (Option Pte)) → count_by (shows page) entries ≡ 0 → (k : ℕ) → shows page (get_or entries k None) ≡ false
 none_shows page entries none k = false_from_ne_true _ (λ is. absurd (omega (arith, count_by-positive (shows page) entries k refl is)))
 
-pub writers-le : (page : ℕ) (entries : List (Option Pte)) → count_by (stores_to page) entries ≤ count_by (shows page) entries
-writers-le page entries = sum_by-le-sum_by (λ x. cond (stores_to page x) 1 0) (λ x. cond (shows page x) 1 0) entries (λ x. by_stores x (cases_Bool (stores_to page x)))
-  where
-    by_stores : (x : Option Pte) → (stores_to page x ≡ true) ⊎ (stores_to page x ≡ false) → cond (stores_to page x) 1 0 ≤ cond (shows page x) 1 0
-    by_stores x (inl stores) = omega (arith, ap one_if stores, ap one_if (stores_shows page x stores))
-    by_stores x (inr not) = omega (arith, ap one_if not)
-
 -- ---- the entries of a page are gone
 
 pub get_or-unless_shows : (page : ℕ) (entries : List (Option Pte)) (k : ℕ) → get_or (map (unless_shows page) entries) k None ≡ unless_shows page (get_or entries k None)
@@ -70,7 +64,8 @@ unless_shows-set page (x ∷ xs) (suc k) is = ap (λ entries. unless_shows page 
 -- where none shows the page, all stay
 pub unless_shows-none : (page : ℕ) (entries : List (Option Pte)) → ((k : ℕ) → shows page (get_or entries k None) ≡ false) → map (unless_shows page) entries ≡ entries
 unless_shows-none page [] none = refl
-unless_shows-none page (x ∷ xs) none = ap (λ entry. entry ∷ map (unless_shows page) xs) (unless_shows-other page x (none 0)) ∙ ap (λ entries. x ∷ entries) (unless_shows-none page xs (λ k. none (suc k)))
+unless_shows-none page (x ∷ xs) none =
+    ap (λ entry. entry ∷ map (unless_shows page) xs) (unless_shows-other page x (none 0)) ∙ ap (λ entries. x ∷ entries) (unless_shows-none page xs (λ k. none (suc k)))
 
 -- a test is counted anew, entry by entry
 count_by-map : (p q : Option Pte → Bool) (f : Option Pte → Option Pte) (entries : List (Option Pte)) → ((x : Option Pte) → p (f x) ≡ q x) → count_by p (map f entries) ≡ count_by q entries
@@ -87,7 +82,8 @@ count_by-never (x ∷ xs) = count_by-never xs
 
 pub count_by-none : (p : Option Pte → Bool) (n : ℕ) → p None ≡ false → count_by p (replicate n None) ≡ 0
 count_by-none p zero none = refl
-count_by-none p (suc n) none = sum_by-cons (λ y. one_if (p y)) None (replicate n None) ∙ ap (λ b. one_if b + count_by p (replicate n None)) none ∙ zero-add (count_by p (replicate n None)) ∙ count_by-none p n none
+count_by-none p (suc n) none =
+    sum_by-cons (λ y. one_if (p y)) None (replicate n None) ∙ ap (λ b. one_if b + count_by p (replicate n None)) none ∙ zero-add (count_by p (replicate n None)) ∙ count_by-none p n none
 
 shows-gone : (page : ℕ) (entry : Option Pte) → shows page (unless_shows page entry) ≡ false
 shows-gone page entry =

@@ -12,7 +12,8 @@ position_kept p xs i y d same = rw (position_or_len-set p xs i y d same, length-
 -- the only element that passes is the first
 pub position_only : {X : Type 0} (p : X → Bool) (xs : List X) (i : ℕ) (d : X) → i < length xs → p (get_or xs i d) ≡ true → ((j : ℕ) → p (get_or xs j d) ≡ true → j ≡ i) → position p xs ≡ Some i
 position_only p xs i d within passes only =
-    let first : position_or_len p xs ≡ i = position_or_len_is p xs i d (omega arith) (λ j below. false_from_ne_true (p (get_or xs j d)) (λ other. absurd (omega (arith, only j other)))) (λ _. passes) in
+    let first : position_or_len p xs ≡ i =
+    position_or_len_is p xs i d (omega arith) (λ j below. false_from_ne_true (p (get_or xs j d)) (λ other. absurd (omega (arith, only j other)))) (λ _. passes) in
     cond-true _ _ _ (lt-ltb (position_or_len p xs) (length xs) (omega arith)) ∙ ap Some first
 
 pub position_none : {X : Type 0} (p : X → Bool) (xs : List X) (d : X) → ((j : ℕ) → j < length xs → p (get_or xs j d) ≡ false) → position p xs ≡ None

@@ -2,6 +2,5 @@ pub mod MapsView
 pub mod SlotTable
 pub mod EntryChains
 pub mod FirstPlace
-pub mod SlotLaws
 pub mod EntryCounts
-pub mod MapsLaws
+pub mod Laws

@@ -24,9 +24,9 @@ pub record MapsView : Type 0 where
 abbrev pub slot_at : MapsView → ℕ → Option Slot
 slot_at maps slot = slice_index_or maps.slots slot None
 
-abbrev pub is_live : Option Slot → Bool
-is_live None = false
-is_live (Some slot) = slot.live
+abbrev pub is_live_slot : Option Slot → Bool
+is_live_slot None = false
+is_live_slot (Some slot) = slot.live
 
 -- the process's live mapping of that number
 abbrev pub is_mapping : ℕ → ℕ → Option Slot → Bool
@@ -47,7 +47,7 @@ abbrev pub free_slot : MapsView → Option ℕ
 free_slot maps = position is_none maps.slots
 
 abbrev pub live_slots : MapsView → ℕ
-live_slots maps = count_by is_live maps.slots
+live_slots maps = count_by is_live_slot maps.slots
 
 abbrev pub torn_slots : MapsView → ℕ
 torn_slots maps = count_by is_torn maps.slots
@@ -100,13 +100,13 @@ abbrev pub any_pinned : MapsView → ℕ → Bool
 any_pinned maps slot = list_any (λ pinned. pinned) (slice_range maps.pinned (place_at slot 0) (place_at slot MAX_MAPPING_PAGES))
 
 -- there is such a page in the mapping
-abbrev pub has_page : Option Slot → ℕ → Bool
-has_page None index = false
-has_page (Some slot) index = nat_lt index slot.count
+abbrev pub slot_has_page : Option Slot → ℕ → Bool
+slot_has_page None index = false
+slot_has_page (Some slot) index = nat_lt index slot.count
 
 -- the slot isn't free, and its mapping has that page
 abbrev pub IsPlace : MapsView → ℕ → ℕ → Type 0
-IsPlace maps slot index = has_page (slot_at maps slot) index ≡ true
+IsPlace maps slot index = slot_has_page (slot_at maps slot) index ≡ true
 
 -- what page `index` of the mapping in a slot shows
 abbrev pub tag_of : Shown → ℕ → ℕ → Tag
@@ -119,7 +119,8 @@ is_writable Anon = true
 
 abbrev pub spot_of : Option Slot → ℕ → ℕ → Option Pte → Option Spot
 spot_of None slot index pte = None
-spot_of (Some mapping) slot index pte = cond (nat_lt index mapping.count) (Some (record { tag = tag_of mapping.shown slot index; writable = is_writable mapping.shown; live = mapping.live; pte = pte })) None
+spot_of (Some mapping) slot index pte =
+    cond (nat_lt index mapping.count) (Some (record { tag = tag_of mapping.shown slot index; writable = is_writable mapping.shown; live = mapping.live; pte = pte })) None
 
 -- a place of a mapping, or none where the slot is free or its mapping has no such page
 abbrev pub spot_at : MapsView → ℕ → ℕ → Option Spot
@@ -176,8 +177,8 @@ abbrev pub new_mapping : ℕ → ℕ → Shown → ℕ → Slot
 new_mapping process number shown count = record { process = process; map = number; live = true; shown = shown; count = count }
 
 -- a new live mapping in a slot
-unfoldable pub with_mapping : MapsView → ℕ → ℕ → ℕ → Shown → ℕ → MapsView
-with_mapping maps slot process number shown count = with_slot maps slot (Some (new_mapping process number shown count))
+unfoldable pub with_slot_mapped : MapsView → ℕ → ℕ → ℕ → Shown → ℕ → MapsView
+with_slot_mapped maps slot process number shown count = with_slot maps slot (Some (new_mapping process number shown count))
 
 -- the slot's mapping is being torn down
 unfoldable pub torn_slot : MapsView → ℕ → MapsView

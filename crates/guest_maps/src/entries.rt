@@ -1,4 +1,4 @@
-ghost use Rattle.std.specs.Prelude.{◌≡◌, ◌+◌, ◌<◌, ◌≤◌, ◌^◌, length, true, map, None, Some, IfOk, IfSome, MatchOption, replicate, slice_index_or, slice_set, count_by};
+ghost use Rattle.std.specs.Prelude.{◌≡◌, ◌+◌, ◌<◌, ◌^◌, length, true, map, None, Some, IfOk, IfSome, MatchOption, replicate, slice_index_or, count_by};
 ghost use Rattle.guest_maps.specs.MapsView.{shows, unless_shows};
 ghost use Rattle.guest_maps.specs.EntryChains.{with_pte, set_at, first_with};
 

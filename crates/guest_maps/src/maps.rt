@@ -1,7 +1,7 @@
 ghost use Rattle.std.specs.Prelude.{◌≡◌, ℕ, ◌+◌, ◌*◌, ◌<◌, ◌≤◌, length, true, false, None, Some, IfOk, IsSome};
 ghost use Rattle.cmm_types.specs.declared.command.TheConstants.{MAX_MAPPING_NUMBERS, MAX_MAPPING_PAGES};
 ghost use Rattle.cmm_types.specs.declared.plan.TheConstants.{MAX_MAPPING_SLOTS, MAX_PROCESSES};
-ghost use Rattle.guest_maps.specs.MapsView.{IsMapping, IsPlace, any_pinned, entries_showing, entry_at, find_slot, free_slot, freed_slot, is_live, is_torn, live_slots, opening_maps, pinned_at, place_at, slot_at, spot_at, torn_slot, translated, with_entry, with_mapping, with_pinned, without_entries_of};
+ghost use Rattle.guest_maps.specs.MapsView.{IsMapping, IsPlace, any_pinned, entries_showing, entry_at, find_slot, free_slot, freed_slot, is_live_slot, is_torn, live_slots, opening_maps, pinned_at, place_at, slot_at, spot_at, torn_slot, translated, with_entry, with_slot_mapped, with_pinned, without_entries_of};
 
 use crate::entries::Entries;
 use crate::pins::Pins;
@@ -61,14 +61,14 @@ impl Maps {
     }
 
     /// Makes a mapping of `count` pages live in the least free slot, and answers the slot.
-    #[tactic(auto, unfolding(crate::specs::MapsView::with_mapping, crate::specs::MapsView::with_slot))]
+    #[tactic(auto, unfolding(crate::specs::MapsView::with_slot_mapped, crate::specs::MapsView::with_slot))]
     pub fn add(&mut self, process: u32, map: u32, shown: Shown, count: u32) -> u32
         requires range { IsMapping process map shown count }
         requires new { find_slot self.old process map ≡ None }
         requires free { IsSome (free_slot self.old) }
         ensures slot { free_slot self.old ≡ Some result }
         ensures within { result < length self.new.slots }
-        ensures value { self.new ≡ with_mapping self.old result process map shown count }
+        ensures value { self.new ≡ with_slot_mapped self.old result process map shown count }
         ensures slots { length self.new.slots ≡ length self.old.slots }
     {
         let slot = self.slots.free_slot().unwrap();
@@ -88,7 +88,7 @@ impl Maps {
     /// Makes a live slot one that is being torn down. The mapping's number is free again.
     #[tactic(auto, unfolding(crate::specs::MapsView::torn_slot, crate::specs::MapsView::with_slot))]
     pub fn tear(&mut self, slot: u32)
-        requires { is_live (slot_at self.old slot) ≡ true }
+        requires { is_live_slot (slot_at self.old slot) ≡ true }
         ensures value { self.new ≡ torn_slot self.old slot }
         ensures slots { length self.new.slots ≡ length self.old.slots }
     {

@@ -1,4 +1,4 @@
-ghost use Rattle.std.specs.Prelude.{◌≡◌, ◌<◌, ◌≤◌, true, None, nat_lt};
+ghost use Rattle.std.specs.Prelude.{◌≡◌, ◌<◌, true};
 ghost use Rattle.cmm_types.specs.InRange.{ArePages};
 ghost use Rattle.guest_maps.specs.MapsView.{first_of, is_writable, spot_of, tag_of};
 

@@ -1,7 +1,7 @@
 ghost use Rattle.std.specs.Prelude.{◌≡◌, ℕ, ◌+◌, ◌*◌, ◌<◌, ◌≤◌, length, true, None, Some, is_none, IfOk, IfSome, replicate, slice_index_or, slice_set, position, count_by};
 ghost use Rattle.cmm_types.specs.declared.command.TheConstants.{MAX_MAPPING_NUMBERS};
 ghost use Rattle.cmm_types.specs.declared.plan.TheConstants.{MAX_MAPPING_SLOTS, MAX_PROCESSES};
-ghost use Rattle.guest_maps.specs.MapsView.{is_live, is_mapping, is_torn, AreSlots, IsMapping, torn};
+ghost use Rattle.guest_maps.specs.MapsView.{is_live_slot, is_mapping, is_torn, AreSlots, IsMapping, torn};
 ghost use Rattle.guest_maps.specs.SlotTable.{number_place};
 
 use crate::slot::Slot;
@@ -25,11 +25,11 @@ impl Model for Slots {
 
     ghost Value = { List (Option Slot) };
 
-    ghost use Rattle.guest_maps.specs.SlotTable.{IsTable};
+    ghost use Rattle.guest_maps.specs.SlotTable.{IsSlotIndex};
 
     ghost view = { λ s. s.slots.items };
 
-    ghost invariant = { λ s. IsTable s.slots.items s.found.items s.live };
+    ghost invariant = { λ s. IsSlotIndex s.slots.items s.found.items s.live };
 }
 
 impl Slots {
@@ -73,7 +73,7 @@ impl Slots {
     }
 
     pub fn live(&self) -> u32
-        ensures { result ≡ count_by is_live self.now }
+        ensures { result ≡ count_by is_live_slot self.now }
     {
         self.live
     }
@@ -95,7 +95,7 @@ impl Slots {
 
     /// Makes a live slot one that is being torn down.
     pub fn tear(&mut self, slot: u32)
-        requires { is_live (slice_index_or self.old slot None) ≡ true }
+        requires { is_live_slot (slice_index_or self.old slot None) ≡ true }
         ensures value { self.new ≡ slice_set self.old slot (torn (slice_index_or self.old slot None)) }
         ensures sound { AreSlots self.new }
     {

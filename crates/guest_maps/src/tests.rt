@@ -10,7 +10,7 @@ const TEXT: Shown = Shown::File {
 };
 
 #[test]
-#[tactic(auto, using(crate::specs::MapsLaws::places_kept))]
+#[tactic(auto, using(crate::specs::Laws::MapsLaws::places_kept))]
 fn a_page_is_shown_until_it_is_cleared(rt: HostRuntime) -> Result<(), Fail> {
     let mut maps = Maps::open(rt.alloc(), 4)?;
     assert_eq!(rt; maps.find(2, 7), None);
@@ -52,7 +52,7 @@ fn a_page_is_shown_until_it_is_cleared(rt: HostRuntime) -> Result<(), Fail> {
 }
 
 #[test]
-#[tactic(auto, using(crate::specs::MapsLaws::places_kept))]
+#[tactic(auto, using(crate::specs::Laws::MapsLaws::places_kept))]
 fn a_mapping_is_found_until_it_is_torn_down(rt: HostRuntime) -> Result<(), Fail> {
     let mut maps = Maps::open(rt.alloc(), 4)?;
     assert_eq!(rt; maps.find(2, 7), None);
@@ -79,7 +79,7 @@ fn a_mapping_is_found_until_it_is_torn_down(rt: HostRuntime) -> Result<(), Fail>
 }
 
 #[test]
-#[tactic(auto, using(crate::specs::MapsLaws::places_kept))]
+#[tactic(auto, using(crate::specs::Laws::MapsLaws::places_kept))]
 fn a_place_is_pinned_until_it_is_unpinned(rt: HostRuntime) -> Result<(), Fail> {
     let mut maps = Maps::open(rt.alloc(), 4)?;
     assert_eq!(rt; maps.find(0, 0), None);

@@ -6,7 +6,7 @@ use Rattle.std.proofs.lemmas.List.{reverse-append, length-reverse, append-nil, m
 use Rattle.std.proofs.lemmas.List.Elements.{All-cons, All-tail}
 use Rattle.std.proofs.lemmas.List.FromFn.{get_or-range_with_len, length-range_with_len, map-range_with_len_more}
 use Rattle.guest_pages.specs.PagesView.{AreDistinct}
-use Rattle.guest_pages.specs.PagesLaws.{length-distinct}
+use Rattle.guest_pages.specs.Laws.PagesLaws.{length-distinct}
 
 pub reverse_push : (items : List ℕ) (page : ℕ) → reverse (items ++ page ∷ []) ≡ page ∷ reverse items
 reverse_push items page = reverse-append items (page ∷ [])

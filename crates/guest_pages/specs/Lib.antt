@@ -1,2 +1,2 @@
 pub mod PagesView
-pub mod PagesLaws
+pub mod Laws

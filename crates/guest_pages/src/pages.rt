@@ -1,4 +1,4 @@
-ghost use Rattle.std.specs.Prelude.{◌≡◌, ◌≤◌, ◌<◌, [], ◌∷◌, length, drop, None, Some, false, Contains, IfOk, MatchOption};
+ghost use Rattle.std.specs.Prelude.{◌≡◌, ◌≤◌, ◌<◌, [], ◌∷◌, length, drop, None, false, Contains, IfOk, MatchOption};
 ghost use Rattle.cmm_types.specs.declared.plan.TheConstants.{MAX_GUEST_PAGES};
 ghost use Rattle.guest_pages.specs.PagesView.{opening_pages, info_at, free_info, with_info, with_tag, with_uptodate, with_dirty, with_owner, with_pins, with_writers, popped, pushed};
 
@@ -25,7 +25,8 @@ impl Model for Pages {
 
     ghost view = { λ p. record { infos = p.infos.items; free = reverse p.free.items } };
 
-    ghost invariant = { λ p. AreDistinct (reverse p.free.items) × All (λ page. page < length p.infos.items) (reverse p.free.items) × (length p.infos.items ≤ vec_capacity p.free) × (length p.infos.items ≤ MAX_GUEST_PAGES) };
+    ghost invariant = { λ p. AreDistinct (reverse p.free.items) × All (λ page. page < length p.infos.items) (reverse p.free.items)
+        × (length p.infos.items ≤ vec_capacity p.free) × (length p.infos.items ≤ MAX_GUEST_PAGES) };
 }
 
 impl Pages {

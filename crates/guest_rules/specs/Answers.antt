@@ -7,7 +7,8 @@ use Rattle.cmm_types.specs.declared.command.Cause.TheVariants.{Disk, Paging, NoP
 use Rattle.cmm_io.specs.Faults.{HasRisen, raised}
 use Rattle.cmm_io.specs.DiskView.{DiskView, with_block}
 use Rattle.essa_state.specs.PageValue.{PageValue, Bytes, IsValue, MayBecome, is_lost, is_blank}
-use Rattle.cmm_storage.specs.StorageView.{StorageView, Misses, write_at}
+use Rattle.cmm_storage.specs.StorageView.{StorageView, Misses}
+use Rattle.cmm_types.specs.Bytes.{with_bytes}
 use Rattle.guest_pages.specs.PagesView.{info_at, free_info}
 use Rattle.guest_maps.specs.MapsView.{entries_showing, with_entry, with_pinned}
 use Rattle.guest_rules.specs.declared.parts.Parts.{Parts}
@@ -16,8 +17,8 @@ use Rattle.guest_rules.specs.declared.outcome.Filled.{Filled}
 use Rattle.guest_rules.specs.declared.outcome.Filled.TheVariants.{Done, Again as FilledAgain, Fail as FilledFail}
 use Rattle.guest_rules.specs.declared.outcome.Missed.{Missed}
 use Rattle.guest_rules.specs.declared.outcome.Missed.TheVariants.{Gone as WasGone, Again as MissedAgain, Fail as MissedFail}
-use Rattle.guest_rules.specs.declared.outcome.Resolved.{Resolved}
-use Rattle.guest_rules.specs.declared.outcome.Resolved.TheVariants.{Mapped, Gone as EntryGone, Again as EntryAgain}
+use Rattle.guest_rules.specs.declared.outcome.Placed.{Placed}
+use Rattle.guest_rules.specs.declared.outcome.Placed.TheVariants.{Done as PlaceDone, Gone as PlaceGone, Again as PlaceAgain}
 use Rattle.guest_rules.specs.declared.outcome.Synced.{Synced}
 use Rattle.guest_rules.specs.declared.outcome.Synced.TheVariants.{Clean, Locked, Gone as SyncGone, Waits, Again as SyncAgain}
 use Rattle.guest_rules.specs.Hint.{hint}
@@ -138,7 +139,7 @@ pub record HasWritten (v : StorageView) (page off : ℕ) (bytes : List ℕ) (w :
   pub may : MayBecome (v.values page) found
   pub all : List ℕ
   pub had : found.contents ≡ Bytes all
-  pub has : (w.values page).contents ≡ Bytes (write_at all off bytes)
+  pub has : (w.values page).contents ≡ Bytes (with_bytes all off bytes)
 
 abbrev pub ReadAnswer : Parts → (page off len : ℕ) → StorageView → Parts → Result (List ℕ) Missed → StorageView → Type 0
 ReadAnswer old page off len v new (Ok bytes) w = AreBytesOf w page off len bytes × IsHinted new page w × MayBeDirty old page new
@@ -172,18 +173,17 @@ pub record HasPinned (old : Parts) (page slot index : ℕ) (pins : Bool) (new : 
   pub count : (info_at new.pages page).pins ≡ pins_after pins (info_at old.pages page).pins
 
 -- a pin never fails
-abbrev pub PinAnswer : Parts → (page slot index : ℕ) → (pins : Bool) → StorageView → Parts → Result Unit Missed → StorageView → Type 0
-PinAnswer old page slot index pins v new (Ok u) w = HasPinned old page slot index pins new × IsHinted new page w
-PinAnswer old page slot index pins v new (Err WasGone) w = WasDiscarded old page v new w
-PinAnswer old page slot index pins v new (Err (MissedAgain why)) w = (new ≡ old) × Misses v w
-PinAnswer old page slot index pins v new (Err (MissedFail cause)) w = ⊥
+abbrev pub PinAnswer : Parts → (page slot index : ℕ) → (pins : Bool) → StorageView → Parts → Placed → StorageView → Type 0
+PinAnswer old page slot index pins v new PlaceDone w = HasPinned old page slot index pins new × IsHinted new page w
+PinAnswer old page slot index pins v new PlaceGone w = WasDiscarded old page v new w
+PinAnswer old page slot index pins v new (PlaceAgain why) w = (new ≡ old) × Misses v w
 
 -- ---- the entry of a page
 
-abbrev pub ResolveAnswer : Parts → (page slot index : ℕ) → (writable : Bool) → StorageView → Parts → Resolved → StorageView → Type 0
-ResolveAnswer old page slot index writable v new Mapped w = (new.maps ≡ with_entry old.maps slot index (Some (record { page = page; writable = writable }))) × IsHinted new page w
-ResolveAnswer old page slot index writable v new EntryGone w = WasDiscarded old page v new w
-ResolveAnswer old page slot index writable v new (EntryAgain why) w = (new ≡ old) × Misses v w
+abbrev pub ResolveAnswer : Parts → (page slot index : ℕ) → (writable : Bool) → StorageView → Parts → Placed → StorageView → Type 0
+ResolveAnswer old page slot index writable v new PlaceDone w = (new.maps ≡ with_entry old.maps slot index (Some (record { page = page; writable = writable }))) × IsHinted new page w
+ResolveAnswer old page slot index writable v new PlaceGone w = WasDiscarded old page v new w
+ResolveAnswer old page slot index writable v new (PlaceAgain why) w = (new ≡ old) × Misses v w
 
 -- ---- a page that is filled
 

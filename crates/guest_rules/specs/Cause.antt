@@ -14,7 +14,7 @@ use Rattle.cmm_types.specs.declared.command.Reply.{Reply}
 use Rattle.cmm_types.specs.declared.command.Reply.TheVariants.{Done, Bytes, Refused, Fail}
 use Rattle.cmm_types.specs.declared.command.Cause.TheVariants.{Disk, Paging, NoPage}
 use Rattle.cmm_types.specs.declared.command.FlatRefusal.{FlatRefusal}
-use Rattle.cmm_flat.specs.Bytes.{bytes_at}
+use Rattle.cmm_types.specs.Bytes.{bytes_at}
 use Rattle.cmm_flat.specs.Legal.{command_of, process_of, flat_of}
 use Rattle.cmm_flat.specs.Flat.{refusal_of}
 use Rattle.cmm_io.specs.Faults.{HasRisen}

@@ -16,12 +16,12 @@ use Rattle.cmm_types.specs.InRange.{GuestInRange, blocks_of}
 use Rattle.cmm_flat.specs.declared.mapping.Mapping.{Mapping}
 use Rattle.cmm_flat.specs.declared.mapping.Shown.{Shown as FlatShown}
 use Rattle.cmm_flat.specs.declared.mapping.Shown.TheVariants.{OfFile as FlatFile, Anonymous}
-use Rattle.cmm_flat.specs.Bytes.{bytes_at, zeros as flat_zeros}
+use Rattle.cmm_types.specs.Bytes.{bytes_at, zeros as flat_zeros, zero_page}
 use Rattle.cmm_flat.specs.State.{FlatState, mapping_at, file_at}
 use Rattle.cmm_flat.specs.Legal.{Legal, flat_of, walk_of, start_of, progress_of, command_of}
 use Rattle.cmm_io.specs.DiskView.{DiskView, AreBlocks}
 use Rattle.essa_state.specs.PageValue.{PageValue, Contents, Bytes, Blank, Lost, IsValue, is_lost, is_blank}
-use Rattle.cmm_storage.specs.StorageView.{StorageView, zeros}
+use Rattle.cmm_storage.specs.StorageView.{StorageView}
 use Rattle.guest_pages.specs.PagesView.{info_at, free_info, AreDistinct}
 use Rattle.guest_cache.specs.CacheView.{CacheView, IsTag, page_of, backing_of}
 use Rattle.guest_maps.specs.declared.slot.Pte.{Pte}
@@ -219,7 +219,7 @@ block_bytes None block = []
 block_bytes (Some blocks) block = slice_index_or blocks block []
 
 abbrev pub backed : Option (List (List ℕ)) → Option ℕ → List ℕ
-backed blocks None = zeros
+backed blocks None = zero_page
 backed blocks (Some block) = block_bytes blocks block
 
 -- what backs a tag: the bytes of its block, or zeros
@@ -241,7 +241,7 @@ pub record ContentsFit (parts : Parts) (v : StorageView) (d : DiskView) : Type 0
 abbrev pub current_bytes : (uptodate : Bool) → Contents → List ℕ → List ℕ
 current_bytes false contents behind = behind
 current_bytes true (Bytes bytes) behind = bytes
-current_bytes true Blank behind = zeros
+current_bytes true Blank behind = zero_page
 current_bytes true Lost behind = behind
 
 abbrev pub current_at : Parts → StorageView → Option ℕ → List ℕ → List ℕ

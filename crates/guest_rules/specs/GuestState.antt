@@ -19,11 +19,11 @@ pub record GuestState : Type 0 where
   pub journal : List Entry
   pub processors : List Processor
 
-abbrev pub at_start : Processor
-at_start = record { place = 0; phase = Start }
+abbrev pub first_processor : Processor
+first_processor = record { place = 0; phase = Start }
 
 abbrev pub processor_at : GuestState → ℕ → Processor
-processor_at g cpu = slice_index_or g.processors cpu at_start
+processor_at g cpu = slice_index_or g.processors cpu first_processor
 
 abbrev pub with_parts : GuestState → Parts → GuestState
 with_parts g parts = record g { parts = parts }
@@ -46,7 +46,13 @@ entered g cpu op reply =
 abbrev pub opening_guest : GuestPlan → GuestState
 opening_guest plan = record {
   plan = plan;
-  parts = record { pages = opening_pages plan.pages; cache = opening_cache (map (λ file. file.pages) plan.files) plan.swap MAX_MAPPING_SLOTS; maps = opening_maps plan.pages MAX_MAPPING_SLOTS; faults = 0 };
+  parts = record {
+    pages = opening_pages plan.pages;
+    cache = opening_cache (map (λ file. file.pages) plan.files) plan.swap MAX_MAPPING_SLOTS;
+    maps =
+        opening_maps plan.pages MAX_MAPPING_SLOTS;
+    faults = 0;
+  };
   journal = [];
-  processors = map (λ cpu. at_start) plan.cpus;
+  processors = map (λ cpu. first_processor) plan.cpus;
 }

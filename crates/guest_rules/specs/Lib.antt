@@ -1,5 +1,6 @@
 pub mod Hint
 pub mod Rows
+pub mod Calls
 pub mod Syncs
 pub mod GuestState
 pub mod Turns

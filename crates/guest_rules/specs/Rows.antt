@@ -12,19 +12,19 @@ use Rattle.essa_state.specs.declared.orders.Order.TheVariants.{SetUnused, SetVol
 use Rattle.cmm_storage.specs.declared.storage.Busy.{Busy}
 use Rattle.cmm_storage.specs.declared.storage.Trap.{Trap}
 use Rattle.cmm_storage.specs.declared.storage.Trap.TheVariants.{Discarded, Paging, NoFrame}
-use Rattle.cmm_storage.specs.StorageView.{zeros}
+use Rattle.cmm_types.specs.Bytes.{zero_page}
 use Rattle.cmm_storage.specs.Program.{Program, done, take_page, touch_page, order_page, take_change, fetch_page, store_page, put_page, read_block, bind}
 use Rattle.guest_pages.specs.PagesView.{free_info, info_at, with_info, with_uptodate, with_dirty, with_owner, with_pins, with_writers, pushed}
 use Rattle.guest_cache.specs.CacheView.{CacheView, without_page, backing_of}
-use Rattle.guest_maps.specs.MapsView.{with_entry, without_entries_of, with_pinned}
+use Rattle.guest_maps.specs.MapsView.{with_entry, without_entries_of, with_pinned, one_if}
 use Rattle.guest_rules.specs.declared.parts.Parts.{Parts}
 use Rattle.guest_rules.specs.declared.outcome.Gone.{Gone}
 use Rattle.guest_rules.specs.declared.outcome.Filled.{Filled}
 use Rattle.guest_rules.specs.declared.outcome.Filled.TheVariants.{Done, Again, Fail}
 use Rattle.guest_rules.specs.declared.outcome.Missed.{Missed}
 use Rattle.guest_rules.specs.declared.outcome.Missed.TheVariants.{Gone as WasGone, Again as MissedAgain, Fail as MissedFail}
-use Rattle.guest_rules.specs.declared.outcome.Resolved.{Resolved}
-use Rattle.guest_rules.specs.declared.outcome.Resolved.TheVariants.{Mapped, Gone as EntryGone, Again as EntryAgain}
+use Rattle.guest_rules.specs.declared.outcome.Placed.{Placed}
+use Rattle.guest_rules.specs.declared.outcome.Placed.TheVariants.{Done as PlaceDone, Gone as PlaceGone, Again as PlaceAgain}
 use Rattle.guest_rules.specs.Hint.{hint}
 
 -- the index without the page's tag, if it has one
@@ -117,11 +117,6 @@ write_taken parts page off bytes (Err busy) = done (parts, Err (MissedAgain (Was
 unfoldable pub write_page : Parts → ℕ → ℕ → List ℕ → Program (Parts × Result Unit Missed)
 write_page parts page off bytes = take_page page (write_taken parts page off bytes)
 
--- how many writable entries one more entry is
-abbrev pub one_if : Bool → ℕ
-one_if true = 1
-one_if false = 0
-
 -- the entry at a place shows the page. It is set where there was none, or none that could be stored through
 unfoldable pub mapped : Parts → (page slot index : ℕ) → (writable : Bool) → Parts
 mapped parts page slot index writable =
@@ -130,16 +125,16 @@ mapped parts page slot index writable =
       maps = with_entry parts.maps slot index (Some (record { page = page; writable = writable }));
     }
 
-abbrev pub resolve_stable : (page slot index : ℕ) → (writable : Bool) → Parts → Result Unit Gone → Program (Parts × Resolved)
-resolve_stable page slot index writable parts (Ok u) = bind (rehint (mapped parts page slot index writable) page) (λ after. put_page page (done (after, Mapped)))
-resolve_stable page slot index writable parts (Err gone) = put_page page (done (parts, EntryGone))
+abbrev pub resolve_stable : (page slot index : ℕ) → (writable : Bool) → Parts → Result Unit Gone → Program (Parts × Placed)
+resolve_stable page slot index writable parts (Ok u) = bind (rehint (mapped parts page slot index writable) page) (λ after. put_page page (done (after, PlaceDone)))
+resolve_stable page slot index writable parts (Err gone) = put_page page (done (parts, PlaceGone))
 
-abbrev pub resolve_taken : Parts → (page slot index : ℕ) → (writable : Bool) → Result Unit Busy → Program (Parts × Resolved)
+abbrev pub resolve_taken : Parts → (page slot index : ℕ) → (writable : Bool) → Result Unit Busy → Program (Parts × Placed)
 resolve_taken parts page slot index writable (Ok u) = bind (make_stable parts page) (λ went. resolve_stable page slot index writable went.0 went.1)
-resolve_taken parts page slot index writable (Err busy) = done (parts, EntryAgain (WasBusy page busy.word))
+resolve_taken parts page slot index writable (Err busy) = done (parts, PlaceAgain (WasBusy page busy.word))
 
 -- the entry at a place is set to show a page with the place's tag that isn't locked
-unfoldable pub resolve : Parts → (page slot index : ℕ) → (writable : Bool) → Program (Parts × Resolved)
+unfoldable pub resolve : Parts → (page slot index : ℕ) → (writable : Bool) → Program (Parts × Placed)
 resolve parts page slot index writable = take_page page (resolve_taken parts page slot index writable)
 
 -- one pin more, or one less
@@ -155,16 +150,16 @@ pinned parts page slot index pins =
       maps = with_pinned parts.maps slot index pins;
     }
 
-abbrev pub pin_stable : (page slot index : ℕ) → (pins : Bool) → Parts → Result Unit Gone → Program (Parts × Result Unit Missed)
-pin_stable page slot index pins parts (Ok u) = bind (rehint (pinned parts page slot index pins) page) (λ after. put_page page (done (after, Ok tt)))
-pin_stable page slot index pins parts (Err gone) = put_page page (done (parts, Err WasGone))
+abbrev pub pin_stable : (page slot index : ℕ) → (pins : Bool) → Parts → Result Unit Gone → Program (Parts × Placed)
+pin_stable page slot index pins parts (Ok u) = bind (rehint (pinned parts page slot index pins) page) (λ after. put_page page (done (after, PlaceDone)))
+pin_stable page slot index pins parts (Err gone) = put_page page (done (parts, PlaceGone))
 
-abbrev pub pin_taken : Parts → (page slot index : ℕ) → (pins : Bool) → Result Unit Busy → Program (Parts × Result Unit Missed)
+abbrev pub pin_taken : Parts → (page slot index : ℕ) → (pins : Bool) → Result Unit Busy → Program (Parts × Placed)
 pin_taken parts page slot index pins (Ok u) = bind (make_stable parts page) (λ went. pin_stable page slot index pins went.0 went.1)
-pin_taken parts page slot index pins (Err busy) = done (parts, Err (MissedAgain (WasBusy page busy.word)))
+pin_taken parts page slot index pins (Err busy) = done (parts, PlaceAgain (WasBusy page busy.word))
 
 -- a place is pinned or unpinned, whose tag is on a page that isn't locked. Nothing of the page is touched or read
-unfoldable pub pin_page : Parts → (page slot index : ℕ) → (pins : Bool) → Program (Parts × Result Unit Missed)
+unfoldable pub pin_page : Parts → (page slot index : ℕ) → (pins : Bool) → Program (Parts × Placed)
 pin_page parts page slot index pins = take_page page (pin_taken parts page slot index pins)
 
 -- a touch through an entry that failed: a discarded page goes through its handler
@@ -225,7 +220,7 @@ fill_read parts page (Err failed) = give_up parts page Disk
 -- what no block backs is zeros
 abbrev pub fill_from : Parts → ℕ → Option ℕ → Program (Parts × Filled)
 fill_from parts page (Some block) = read_block block (fill_read parts page)
-fill_from parts page None = fill_with parts page zeros
+fill_from parts page None = fill_with parts page zero_page
 
 abbrev pub fill_touched : Parts → ℕ → Result Unit Trap → Program (Parts × Filled)
 fill_touched parts page (Ok u) = fill_from parts page (backing_at parts page)

@@ -24,7 +24,7 @@ use Rattle.guest_maps.specs.declared.slot.Pte.{Pte}
 use Rattle.guest_maps.specs.declared.slot.Shown.{Shown}
 use Rattle.guest_maps.specs.declared.slot.Shown.TheVariants.{File as OfFile}
 use Rattle.guest_maps.specs.declared.slot.Slot.{Slot}
-use Rattle.guest_maps.specs.MapsView.{MapsView, slot_at, find_slot, free_slot, live_slots, entry_at, pinned_at, tag_at, is_writable, with_mapping}
+use Rattle.guest_maps.specs.MapsView.{MapsView, slot_at, find_slot, free_slot, live_slots, entry_at, pinned_at, tag_at, is_writable, with_slot_mapped}
 use Rattle.guest_rules.specs.declared.parts.Parts.{Parts}
 use Rattle.guest_rules.specs.declared.processor.Phase.{Phase}
 use Rattle.guest_rules.specs.declared.processor.Phase.TheVariants.{Start, Fill, Sync as AtSync, SyncWrite}
@@ -33,8 +33,8 @@ use Rattle.guest_rules.specs.declared.outcome.Filled.TheVariants.{Done as Filled
 use Rattle.guest_rules.specs.declared.outcome.Missed.{Missed}
 use Rattle.guest_rules.specs.declared.outcome.Missed.TheVariants.{Gone as MissedGone, Again as MissedAgain, Fail as MissedFail}
 use Rattle.guest_rules.specs.GuestState.{GuestState, processor_at, with_parts, with_phase, entered}
-use Rattle.guest_rules.specs.declared.outcome.Resolved.{Resolved}
-use Rattle.guest_rules.specs.declared.outcome.Resolved.TheVariants.{Mapped, Gone as EntryGone, Again as EntryAgain}
+use Rattle.guest_rules.specs.declared.outcome.Placed.{Placed}
+use Rattle.guest_rules.specs.declared.outcome.Placed.TheVariants.{Done as PlaceDone, Gone as PlaceGone, Again as PlaceAgain}
 use Rattle.guest_rules.specs.Rows.{read_page, write_page, load_page, store_through, resolve, fill, pin_page}
 use Rattle.guest_rules.specs.declared.outcome.Synced.{Synced}
 use Rattle.guest_rules.specs.declared.outcome.Synced.TheVariants.{Clean, Locked, Gone as SyncGone, Waits as IsLocked, Again as SyncAgain}
@@ -49,8 +49,8 @@ file_pages files file = of (slice_get files file)
     of (Some plan) = plan.pages
 
 -- there is such a file, and it has len bytes from off on
-abbrev pub has_bytes : List FilePlan → ℕ → ℕ → ℕ → Bool
-has_bytes files file off len = nat_lt file (length files) && nat_le (off + len) (PAGE * file_pages files file)
+abbrev pub file_has_bytes : List FilePlan → ℕ → ℕ → ℕ → Bool
+file_has_bytes files file off len = nat_lt file (length files) && nat_le (off + len) (PAGE * file_pages files file)
 
 -- the pages of the mapping in a slot
 abbrev pub mapping_pages : Option Slot → ℕ
@@ -72,7 +72,7 @@ refusal_at maps writes off len (Some slot) =
 abbrev pub refusal_of_new : GuestState → (file first count : ℕ) → Option ℕ → Option FlatRefusal
 refusal_of_new g file first count (Some slot) = Some AlreadyMapped
 refusal_of_new g file first count None =
-    if has_bytes g.plan.files file (PAGE * first) (PAGE * count)
+    if file_has_bytes g.plan.files file (PAGE * first) (PAGE * count)
     then (if nat_le MAX_LIVE_MAPPINGS (live_slots g.parts.maps) then Some TooManyMaps else None)
     else Some OutOfRange
 
@@ -91,8 +91,8 @@ refusal_of_pin_at maps pins index (Some slot) =
 
 -- why a command of a process is refused, as the tables say. Mappings of pages of their own, and the ends of mappings, aren't built yet
 abbrev pub refusal_in : GuestState → (process : ℕ) → Op → Option FlatRefusal
-refusal_in g process (Read file off len) = if has_bytes g.plan.files file off len then None else Some OutOfRange
-refusal_in g process (Write file off bytes) = if has_bytes g.plan.files file off (length bytes) then None else Some OutOfRange
+refusal_in g process (Read file off len) = if file_has_bytes g.plan.files file off len then None else Some OutOfRange
+refusal_in g process (Write file off bytes) = if file_has_bytes g.plan.files file off (length bytes) then None else Some OutOfRange
 refusal_in g process (MapFile number file first count writable) = refusal_of_new g file first count (find_slot g.parts.maps process number)
 refusal_in g process (Load number off len) = refusal_at g.parts.maps false off len (find_slot g.parts.maps process number)
 refusal_in g process (Store number off bytes) = refusal_at g.parts.maps true off (length bytes) (find_slot g.parts.maps process number)
@@ -134,10 +134,10 @@ abbrev pub done_next : GuestState → ℕ → Op → Parts → Result Unit Misse
 done_next g cpu op parts (Ok u) = done (entered (with_parts g parts) cpu op ReplyDone, Finished)
 done_next g cpu op parts (Err missed) = missed_next g cpu op parts missed
 
-abbrev pub resolve_next : GuestState → Parts → Resolved → Program (GuestState × Turn)
-resolve_next g parts Mapped = done (with_parts g parts, Moved)
-resolve_next g parts EntryGone = done (with_parts g parts, Moved)
-resolve_next g parts (EntryAgain why) = done (with_parts g parts, Again why)
+abbrev pub resolve_next : GuestState → Parts → Placed → Program (GuestState × Turn)
+resolve_next g parts PlaceDone = done (with_parts g parts, Moved)
+resolve_next g parts PlaceGone = done (with_parts g parts, Moved)
+resolve_next g parts (PlaceAgain why) = done (with_parts g parts, Again why)
 
 abbrev pub resolve_in : GuestState → (page number off : ℕ) → (writable : Bool) → ℕ → Option ℕ → Program (GuestState × Turn)
 resolve_in g page number off writable process None = done (g, Idle)
@@ -148,9 +148,15 @@ abbrev pub resolve_turn : GuestState → ℕ → (page number off : ℕ) → (wr
 resolve_turn g cpu page number off writable =
     resolve_in g page number off writable (process_of g.plan cpu) (find_slot g.parts.maps (process_of g.plan cpu) number)
 
+-- a pin or an unpin is answered `Done` once its page was held and stable: it never fails
+abbrev pub pin_next : GuestState → ℕ → Op → Parts → Placed → Program (GuestState × Turn)
+pin_next g cpu op parts PlaceDone = done (entered (with_parts g parts) cpu op ReplyDone, Finished)
+pin_next g cpu op parts PlaceGone = done (with_parts g parts, Moved)
+pin_next g cpu op parts (PlaceAgain why) = done (with_parts g parts, Again why)
+
 abbrev pub pin_in : GuestState → ℕ → Op → (page index : ℕ) → (pins : Bool) → Option ℕ → Program (GuestState × Turn)
 pin_in g cpu op page index pins None = done (g, Idle)
-pin_in g cpu op page index pins (Some slot) = bind (pin_page g.parts page slot index pins) (λ went. done_next g cpu op went.0 went.1)
+pin_in g cpu op page index pins (Some slot) = bind (pin_page g.parts page slot index pins) (λ went. pin_next g cpu op went.0 went.1)
 
 -- the command's page is to be pinned or unpinned
 abbrev pub pin_turn : GuestState → ℕ → Op → (page number index : ℕ) → (pins : Bool) → Program (GuestState × Turn)
@@ -222,7 +228,7 @@ start_placed g cpu op index (Some slot) = start_at g cpu op (tag_at g.parts.maps
 abbrev pub map_turn : GuestState → ℕ → Op → (number : ℕ) → Shown → (count : ℕ) → Option ℕ → Program (GuestState × Turn)
 map_turn g cpu op number shown count None = done (g, Idle)
 map_turn g cpu op number shown count (Some slot) =
-    done (entered (with_parts g (record g.parts { maps = with_mapping g.parts.maps slot (process_of g.plan cpu) number shown count })) cpu op ReplyDone, Finished)
+    done (entered (with_parts g (record g.parts { maps = with_slot_mapped g.parts.maps slot (process_of g.plan cpu) number shown count })) cpu op ReplyDone, Finished)
 
 -- a sync goes on behind page `index` of its file, which has so many pages, or is done
 abbrev pub passed : GuestState → ℕ → Op → (pages index : ℕ) → GuestState × Turn

@@ -26,11 +26,12 @@ pub enum Missed {
     Fail(Cause),
 }
 
-/// What became of an entry that was to be set.
+/// What became of a place: its entry was to be set, or it was to be pinned or unpinned. Nothing of the page is touched,
+/// so this never fails.
 #[derive(Clone, Copy, Debug, PartialEq, Eq)]
-pub enum Resolved {
-    /// The entry shows the page.
-    Mapped,
+pub enum Placed {
+    /// The place is as it was to be.
+    Done,
     /// The page had been discarded, and is free now.
     Gone,
     /// The turn has to be taken again.

@@ -14,7 +14,8 @@ use Rattle.essa_state.specs.declared.fields.Fields.{Fields}
 use Rattle.host_clock.specs.Victim.{is_candidate, is_takeable, from_hand, wrapped}
 
 -- of two lists of which the first has x elements and its first place is p, and the second's is q among y
-joined_places : (p x q y : ℕ) → p ≤ x → cond (nat_lt (cond (eqb p x) (x + q) p) (x + y)) (Some (cond (eqb p x) (x + q) p)) None ≡ option_or (cond (nat_lt p x) (Some p) None) (option_map (λ k. x + k) (cond (nat_lt q y) (Some q) None))
+joined_places : (p x q y : ℕ) → p ≤ x → cond (nat_lt (cond (eqb p x) (x + q) p) (x + y)) (Some (cond (eqb p x) (x + q) p)) None
+    ≡ option_or (cond (nat_lt p x) (Some p) None) (option_map (λ k. x + k) (cond (nat_lt q y) (Some q) None))
 joined_places p x q y within = grind arith
 
 found_behind : (p x : ℕ) → is_some (cond (nat_lt (1 + p) (suc x)) (Some (1 + p)) None) ≡ is_some (cond (nat_lt p x) (Some p) None)
@@ -43,7 +44,8 @@ position-append p xs ys =
     rw (prefix_len-append (λ x. not (p x)) xs ys, length-append xs ys) (joined_places (position_or_len p xs) (length xs) (position_or_len p ys) (length ys) (prefix_len-le-length (λ x. not (p x)) xs))
 
 -- the first place in the cycle is the first from the hand on, or else the first before the hand behind all those
-pub cycle_place : (p : Fields → Bool) (words : List Fields) (hand : ℕ) (on before : Option ℕ) → hand ≤ length words → on ≡ position p (take (length words - hand) (drop hand words)) → before ≡ position p (take hand words) → option_or on (option_map (λ k. length words - hand + k) before) ≡ position p (from_hand words hand)
+pub cycle_place : (p : Fields → Bool) (words : List Fields) (hand : ℕ) (on before : Option ℕ) → hand ≤ length words → on ≡ position p (take (length words - hand) (drop hand words))
+    → before ≡ position p (take hand words) → option_or on (option_map (λ k. length words - hand + k) before) ≡ position p (from_hand words hand)
 cycle_place p words hand on before within on_is before_is =
     let rest : length (drop hand words) ≡ length words - hand = length-drop hand words in
     let whole : take (length words - hand) (drop hand words) ≡ drop hand words = take_all (length words - hand) (drop hand words) (omega (arith, rest)) in
@@ -61,7 +63,8 @@ position-found {X} p (x ∷ xs) =
 -- some word of the cycle passes exactly where some word does
 pub any_from_hand : (p : Fields → Bool) (words : List Fields) (hand : ℕ) → list_any p (from_hand words hand) ≡ list_any p words
 any_from_hand p words hand =
-    list_any-append p (drop hand words) (take hand words) ∙ or_comm (list_any p (drop hand words)) (list_any p (take hand words)) ∙ sym (list_any-append p (take hand words) (drop hand words)) ∙ ap (list_any p) (take-append-drop hand words)
+    list_any-append p (drop hand words) (take hand words) ∙ or_comm (list_any p (drop hand words)) (list_any p (take hand words)) ∙ sym (list_any-append p (take hand words) (drop hand words))
+    ∙ ap (list_any p) (take-append-drop hand words)
 
 -- where an unreferenced page may be taken, some candidate is there
 pub takeable_any : (xs : List Fields) → (list_any (is_takeable false) xs || list_any (is_takeable true) xs) ≡ list_any is_candidate xs
@@ -69,10 +72,12 @@ takeable_any [] = refl
 takeable_any (x ∷ xs) = one_more (is_candidate x) (not x.referenced) (list_any (is_takeable false) xs) (list_any (is_takeable true) xs) (takeable_any xs)
 
 -- so a victim is found exactly where there is a candidate
-pub victim_found : (words : List Fields) (hand : ℕ) → is_some (option_or (position (is_takeable false) (from_hand words hand)) (position (is_takeable true) (from_hand words hand))) ≡ list_any is_candidate words
+pub victim_found : (words : List Fields) (hand : ℕ) → is_some (option_or (position (is_takeable false) (from_hand words hand)) (position (is_takeable true) (from_hand words hand)))
+    ≡ list_any is_candidate words
 victim_found words hand =
     some_of_two (position (is_takeable false) (from_hand words hand)) (position (is_takeable true) (from_hand words hand))
-    ∙ rw (position-found (is_takeable false) (from_hand words hand), position-found (is_takeable true) (from_hand words hand)) (takeable_any (from_hand words hand) ∙ any_from_hand is_candidate words hand)
+    ∙ rw (position-found (is_takeable false) (from_hand words hand), position-found (is_takeable true) (from_hand words hand))
+    (takeable_any (from_hand words hand) ∙ any_from_hand is_candidate words hand)
 
 -- the word so many steps from the hand stands at the wrapped place
 pub around : (words : List Fields) (hand k : ℕ) (d : Fields) → hand < length words → k < length words → get_or (from_hand words hand) k d ≡ get_or words (wrapped (length words) (hand + k)) d
@@ -85,7 +90,8 @@ takeable_candidate true word h = h
 takeable_candidate false word h = (and_parts (is_candidate word) (not word.referenced) h).0
 
 -- what may be taken at the first place found is a candidate
-pub place_candidate : (in_need : Bool) (words : List Fields) (hand : ℕ) (first : Option ℕ) → hand < length words → IfSome first (λ steps. steps < length words) → first ≡ position (is_takeable in_need) (from_hand words hand) → IfSome first (λ steps. (d : Fields) → is_candidate (get_or words (wrapped (length words) (hand + steps)) d) ≡ true)
+pub place_candidate : (in_need : Bool) (words : List Fields) (hand : ℕ) (first : Option ℕ) → hand < length words → IfSome first (λ steps. steps < length words)
+    → first ≡ position (is_takeable in_need) (from_hand words hand) → IfSome first (λ steps. (d : Fields) → is_candidate (get_or words (wrapped (length words) (hand + steps)) d) ≡ true)
 place_candidate in_need words hand None held within h = tt
 place_candidate in_need words hand (Some steps) held within h =
     λ d. takeable_candidate in_need _ (rw (around words hand steps d held within) at (position-Some (is_takeable in_need) (from_hand words hand) steps d (sym h)).1)

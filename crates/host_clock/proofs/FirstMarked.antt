@@ -6,7 +6,7 @@ use Rattle.std.proofs.Common.{arith, ap, sym, subst, ◌∙◌}
 use Rattle.std.proofs.lemmas.List.{get_or-drop, get_or-take, length-drop, length-take-le}
 use Rattle.host_clock.specs.Victim.{wrapped}
 use Rattle.host_clock.specs.Marking.{is_marked, NoneMarked, first_marked}
-use Rattle.host_clock.specs.MarkingLaws.{wrapped-same, wrapped-over}
+use Rattle.host_clock.specs.Laws.MarkingLaws.{wrapped-same, wrapped-over}
 use Rattle.host_clock.proofs.Cycle.{position-append}
 
 abbrev is_set : Bool → Bool

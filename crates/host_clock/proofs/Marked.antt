@@ -70,7 +70,8 @@ marked-inside marks place mark from zero i below at inside = absurd (omega (arit
 marked-inside marks place mark from (suc n) i below at inside = elim (cases_eq i n) [
   | inl e ↦
       let there : from + n ≡ place = omega (arith, e, at) in
-      let last : mark_code (is_marked (slice_set marks place mark) (from + n)) ≡ mark_code mark = ap mark_code (ap (is_marked (slice_set marks place mark)) there ∙ get_or-set_same marks place mark false below) in
+      let last : mark_code (is_marked (slice_set marks place mark) (from + n)) ≡ mark_code mark =
+      ap mark_code (ap (is_marked (slice_set marks place mark)) there ∙ get_or-set_same marks place mark false below) in
       let was : mark_code (is_marked marks (from + n)) ≡ mark_code (is_marked marks place) = ap (λ (k : ℕ). mark_code (is_marked marks k)) there in
       omega (arith, last, was, marked-outside marks place mark from n (λ k less same. omega (arith, less, same, there)))
   | inr other ↦
@@ -141,10 +142,3 @@ none-block size marks counts place block sound at inside counted p low high =
     let there : size * block + (p - place) ≡ p = omega (arith, at, low) in
     let near : p - place < size = omega (arith, low, high) in
     subst (λ k. is_marked marks k ≡ false) there (none-of-count marks (size * block) size none (p - place) near)
-
--- one place more, or one gap
-pub none-further : (marks : List Bool) (from at to : ℕ) → NoneMarked marks from at → NoneMarked marks at to → NoneMarked marks from to
-none-further marks from at to first second p low high = elim (cases_lt p at) [
-  | inl near ↦ first p low near
-  | inr far ↦ second p far high
-]

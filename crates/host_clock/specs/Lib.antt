@@ -1,3 +1,3 @@
 pub mod Victim
 pub mod Marking
-pub mod MarkingLaws
+pub mod Laws

@@ -16,9 +16,9 @@ use Rattle.host_clock.specs.Victim.{is_candidate, is_takeable, from_hand, victim
 use Rattle.host_clock.proofs.Cycle.{victim_found}
 use Rattle.host_plain.specs.declared.moves.ApplyError.TheVariants.{Paging}
 use Rattle.host_plain.specs.MemoryState.{MemoryState, IsMemory, word_at, with_use, frames_of, resident_of}
-use Rattle.host_plain.specs.Eviction.{Paged, moved_page, reclaimed_page, evicted_at, evicted, freed, passed_by, word_in}
-use Rattle.host_plain.specs.Touches.{Touched, used_after, zeroed_at, filled, filled_after, touched_page}
-use Rattle.host_plain.specs.HostMoves.{Applied, Reclaimed, answered, brought_after, allowed_move, applied_as, applied, counted, more_at, one_more, reclaimed}
+use Rattle.host_plain.specs.Eviction.{Paged, moved_page, reclaimed_page, evicted_at, evicted, frame_freed, passed_by, word_in}
+use Rattle.host_plain.specs.Touches.{Touched, used_after, zeroed_at, frame_filled, filled_after, touched_page}
+use Rattle.host_plain.specs.HostMoves.{Applied, Reclaimed, move_answered, allowed_move, applied_as, applied, reclaim_counted, more_at, one_more, reclaimed}
 use Rattle.host_plain.specs.Keeping.{ReclaimTells, NoneToTake, FaultsOf, NeverFalls, is_paged, is_made}
 
 candidate-first : (w : Fields) (rest : Bool) → is_resident w.content ≡ true → w.busy ≡ false → (is_candidate w || rest) ≡ true
@@ -81,7 +81,8 @@ after-some count hand (Some steps) = refl
 
 -- a victim is found exactly where there is a candidate
 pub victim-found : (words : List Fields) (hand : ℕ) → is_some (victim_of words hand) ≡ list_any is_candidate words
-victim-found words hand = after-some (length words) hand (option_or (position (is_takeable false) (from_hand words hand)) (position (is_takeable true) (from_hand words hand))) ∙ victim_found words hand
+victim-found words hand = after-some (length words) hand (option_or (position (is_takeable false) (from_hand words hand)) (position (is_takeable true) (from_hand words hand)))
+    ∙ victim_found words hand
 
 evicted-faults : (m : MemoryState) (pager : FailurePlan) → m.free ≡ 0 → FaultsOf (evicted m pager).done m pager (evicted m pager).pager
 unfolding evicted
@@ -94,16 +95,17 @@ evicted-faults m pager none_free = at (victim_of m.words m.hand) refl
 none-free : (free : ℕ) → nat_lt 0 free ≡ false → free ≡ 0
 none-free free h = grind (arith, h)
 
-pub freed-faults : (m : MemoryState) (pager : FailurePlan) → FaultsOf (freed m pager).done m pager (freed m pager).pager
-unfolding freed
+pub freed-faults : (m : MemoryState) (pager : FailurePlan) → FaultsOf (frame_freed m pager).done m pager (frame_freed m pager).pager
+unfolding frame_freed
 freed-faults m pager = at (nat_lt 0 m.free) refl
   where
     at : (b : Bool) → nat_lt 0 m.free ≡ b →
-        FaultsOf (if b then record { done = true; memory = m; pager = pager } else evicted m pager).done m pager (if b then record { done = true; memory = m; pager = pager } else evicted m pager).pager
+        FaultsOf (if b then record { done = true; memory = m; pager = pager } else evicted m pager).done m pager
+        (if b then record { done = true; memory = m; pager = pager } else evicted m pager).pager
     at true some = refl
     at false none = evicted-faults m pager (none-free m.free none)
 
-filled-calls : (m : MemoryState) (page : ℕ) (pager : FailurePlan) → Calls (filled m page pager).done pager (filled m page pager).pager
+filled-calls : (m : MemoryState) (page : ℕ) (pager : FailurePlan) → Calls (frame_filled m page pager).done pager (frame_filled m page pager).pager
 filled-calls m page pager = at (is_preserved (word_at m page).content)
   where
     at : (b : Bool) → Calls (if b then moved_page Bring m page pager else record { done = true; memory = zeroed_at m page; pager = pager }).done pager
@@ -136,22 +138,24 @@ unfolding touched_page
 touched_page-faults m page pager = at (is_discarded (word_at m page)) (is_resident (word_at m page).content)
   where
     at : (d r : Bool) →
-        let t : Touched = if d then record { answer = Err Discarded; memory = m; pager = pager } else if r then record { answer = Ok tt; memory = with_use m page; pager = pager } else used_after (filled_after (freed m pager) page) page in
+        let t : Touched = if d then record { answer = Err Discarded; memory = m; pager = pager } else if r then record { answer = Ok tt; memory = with_use m page; pager = pager } else used_after
+        (filled_after (frame_freed m pager) page) page in
         FaultsOf (is_paged t.answer) m pager t.pager
     at true r = refl
     at false true = refl
     at false false =
-        used_after-faults m page pager (filled_after (freed m pager) page)
-        (then-faults m pager (freed m pager) (filled (freed m pager).memory page (freed m pager).pager) (freed-faults m pager) (filled-calls (freed m pager).memory page (freed m pager).pager))
+        used_after-faults m page pager (filled_after (frame_freed m pager) page)
+        (then-faults m pager (frame_freed m pager) (frame_filled (frame_freed m pager).memory page (frame_freed m pager).pager) (freed-faults m pager)
+        (filled-calls (frame_freed m pager).memory page (frame_freed m pager).pager))
 
 allowed_move-faults : (action : Move) (m : MemoryState) (place : ℕ) (pager : FailurePlan) → FaultsOf (allowed_move action m place pager).done m pager (allowed_move action m place pager).pager
 allowed_move-faults Discard m place pager = refl
 allowed_move-faults Preserve m place pager = faults_from (not (fails_next pager)) m pager pager (after_next pager) refl (calls_next pager)
 allowed_move-faults Bring m place pager =
-    then-faults m pager (freed m pager) (moved_page Bring (freed m pager).memory place (freed m pager).pager) (freed-faults m pager) (calls_next (freed m pager).pager)
+    then-faults m pager (frame_freed m pager) (moved_page Bring (frame_freed m pager).memory place (frame_freed m pager).pager) (freed-faults m pager) (calls_next (frame_freed m pager).pager)
 allowed_move-faults Age m place pager = refl
 
-answered-faults : (m : MemoryState) (pager : FailurePlan) (step : Paged) → FaultsOf step.done m pager step.pager → FaultsOf (is_made (answered step).answer) m pager (answered step).pager
+answered-faults : (m : MemoryState) (pager : FailurePlan) (step : Paged) → FaultsOf step.done m pager step.pager → FaultsOf (is_made (move_answered step).answer) m pager (move_answered step).pager
 answered-faults m pager step given = at step.done given
   where
     at : (b : Bool) → FaultsOf b m pager step.pager →
@@ -196,7 +200,7 @@ pub failed-more : (n : ℕ) (k : MemoryState) (q : FailurePlan) → one_more (so
 unfolding one_more
 failed-more n k q = refl
 
-counted-as : (n : ℕ) (step : Paged) (d : Bool) → d ≡ step.done → counted n step ≡ (if d then so_far (n + 1) false step.memory step.pager else so_far n true step.memory step.pager)
+counted-as : (n : ℕ) (step : Paged) (d : Bool) → d ≡ step.done → reclaim_counted n step ≡ (if d then so_far (n + 1) false step.memory step.pager else so_far n true step.memory step.pager)
 counted-as n step d done = ap (λ (b : Bool). if b then so_far (n + 1) false step.memory step.pager else so_far n true step.memory step.pager) (sym done)
 
 -- a victim's move
@@ -285,7 +289,8 @@ falls-none pager = omega arith
 falls-trans : (p q r : FailurePlan) → NeverFalls p q → NeverFalls q r → NeverFalls p r
 falls-trans p q r first second = omega (arith, first, second)
 
-falls-either : (b : Bool) (m : MemoryState) (pager : FailurePlan) (first second : Paged) → NeverFalls pager first.pager → NeverFalls pager second.pager → NeverFalls pager (if b then first else second).pager
+falls-either : (b : Bool) (m : MemoryState) (pager : FailurePlan) (first second : Paged) → NeverFalls pager first.pager → NeverFalls pager second.pager
+    → NeverFalls pager (if b then first else second).pager
 falls-either true m pager first second one other = one
 falls-either false m pager first second one other = other
 
@@ -300,8 +305,8 @@ unfolding reclaimed_page
 evicted_at-falls m None pager = falls-none pager
 evicted_at-falls m (Some v) pager = moved_page-falls _ (passed_by m v) v.0 pager
 
-freed-falls : (m : MemoryState) (pager : FailurePlan) → NeverFalls pager (freed m pager).pager
-unfolding freed evicted
+freed-falls : (m : MemoryState) (pager : FailurePlan) → NeverFalls pager (frame_freed m pager).pager
+unfolding frame_freed evicted
 freed-falls m pager = falls-either (nat_lt 0 m.free) m pager _ _ (falls-none pager) (evicted_at-falls m (victim_of m.words m.hand) pager)
 
 -- a touch's pager
@@ -309,55 +314,34 @@ pub touched_page-falls : (m : MemoryState) (page : ℕ) (pager : FailurePlan) �
 unfolding touched_page
 touched_page-falls m page pager = at (is_discarded (word_at m page)) (is_resident (word_at m page).content)
   where
-    filled-falls : (f : Paged) → NeverFalls f.pager (filled f.memory page f.pager).pager
+    filled-falls : (f : Paged) → NeverFalls f.pager (frame_filled f.memory page f.pager).pager
     filled-falls f = falls-either (is_preserved (word_at f.memory page).content) f.memory f.pager _ _ (falls_next f.pager) (falls-none f.pager)
 
-    after : NeverFalls pager (filled_after (freed m pager) page).pager
+    after : NeverFalls pager (filled_after (frame_freed m pager) page).pager
     after =
-        falls-either (freed m pager).done m pager (filled (freed m pager).memory page (freed m pager).pager) (freed m pager)
-        (falls-trans pager (freed m pager).pager (filled (freed m pager).memory page (freed m pager).pager).pager (freed-falls m pager) (filled-falls (freed m pager))) (freed-falls m pager)
+        falls-either (frame_freed m pager).done m pager (frame_filled (frame_freed m pager).memory page (frame_freed m pager).pager) (frame_freed m pager)
+        (falls-trans pager (frame_freed m pager).pager (frame_filled (frame_freed m pager).memory page (frame_freed m pager).pager).pager (freed-falls m pager)
+        (filled-falls (frame_freed m pager))) (freed-falls m pager)
 
     used : (b : Bool) (step : Paged) → NeverFalls pager step.pager →
-        NeverFalls pager (let t : Touched = if b then record { answer = Ok tt; memory = with_use step.memory page; pager = step.pager } else record { answer = Err NoPage; memory = step.memory; pager = step.pager } in t).pager
+        NeverFalls pager (let t : Touched = if b then record { answer = Ok tt; memory = with_use step.memory page; pager = step.pager } else
+        record { answer = Err NoPage; memory = step.memory; pager = step.pager } in t).pager
     used true step given = given
     used false step given = given
 
     at : (d r : Bool) →
-        NeverFalls pager (let t : Touched = if d then record { answer = Err Discarded; memory = m; pager = pager } else if r then record { answer = Ok tt; memory = with_use m page; pager = pager } else used_after (filled_after (freed m pager) page) page in t).pager
+        NeverFalls pager (let t : Touched = if d then record { answer = Err Discarded; memory = m; pager = pager } else if r then
+        record { answer = Ok tt; memory = with_use m page; pager = pager } else used_after (filled_after (frame_freed m pager) page) page in t).pager
     at true r = falls-none pager
     at false true = falls-none pager
-    at false false = used (filled_after (freed m pager) page).done (filled_after (freed m pager) page) after
-
--- a host move's pager
-pub applied-falls : (m : MemoryState) (place : ℕ) (action : Move) (pager : FailurePlan) → NeverFalls pager (applied m place action pager).pager
-unfolding applied
-applied-falls m place action pager = at (move_answer (word_at m place) action)
-  where
-    brings : NeverFalls pager (brought_after (freed m pager) place).pager
-    brings =
-        falls-either (freed m pager).done m pager (moved_page Bring (freed m pager).memory place (freed m pager).pager) (freed m pager)
-        (falls-trans pager (freed m pager).pager (after_next (freed m pager).pager) (freed-falls m pager) (falls_next (freed m pager).pager)) (freed-falls m pager)
-
-    allowed : (a : Move) → NeverFalls pager (allowed_move a m place pager).pager
-    allowed Discard = falls-none pager
-    allowed Preserve = falls_next pager
-    allowed Bring = brings
-    allowed Age = falls-none pager
-
-    made : (b : Bool) (step : Paged) → NeverFalls pager step.pager →
-        NeverFalls pager (let r : Applied = if b then record { answer = Ok tt; memory = step.memory; pager = step.pager } else record { answer = Err Paging; memory = step.memory; pager = step.pager } in r).pager
-    made true step given = given
-    made false step given = given
-
-    at : (r : Result Fields Reason) → NeverFalls pager (applied_as r action m place pager).pager
-    at (Ok moved) = made (allowed_move action m place pager).done (allowed_move action m place pager) (allowed action)
-    at (Err why) = falls-none pager
+    at false false = used (filled_after (frame_freed m pager) page).done (filled_after (frame_freed m pager) page) after
 
 -- the pager of reclaiming
 pub reclaimed-falls : (m : MemoryState) (pager : FailurePlan) (n : ℕ) → NeverFalls pager (reclaimed m pager n).pager
 unfolding reclaimed one_more
 reclaimed-falls m pager zero = falls-none pager
-reclaimed-falls m pager (suc n) = falls-trans pager (reclaimed m pager n).pager (one_more (reclaimed m pager n)).pager (reclaimed-falls m pager n) (at (reclaimed m pager n) (reclaimed m pager n).paging)
+reclaimed-falls m pager (suc n) = falls-trans pager (reclaimed m pager n).pager (one_more (reclaimed m pager n)).pager (reclaimed-falls m pager n)
+    (at (reclaimed m pager n) (reclaimed m pager n).paging)
   where
     step : (b : Bool) (r : Reclaimed) (p : Paged) → NeverFalls r.pager p.pager →
         NeverFalls r.pager (if b then so_far (r.count + 1) false p.memory p.pager else so_far r.count true p.memory p.pager).pager

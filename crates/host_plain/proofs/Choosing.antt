@@ -5,8 +5,8 @@ use Rattle.std.proofs.lemmas.List.{set-get_or, get_or-map, get_or_default}
 use Rattle.essa_state.specs.declared.fields.Fields.{Fields}
 use Rattle.host_clock.specs.Victim.{is_candidate, wrapped}
 use Rattle.host_clock.specs.Marking.{is_marked, NoneMarked}
-use Rattle.host_clock.specs.MarkingLaws.{wrapped-same, wrapped-over}
-use Rattle.host_plain.specs.MemoryState.{opening_word}
+use Rattle.host_clock.specs.Laws.MarkingLaws.{wrapped-same, wrapped-over}
+use Rattle.essa_state.specs.StateWord.{opening_word}
 use Rattle.host_plain.specs.Eviction.{aged_words, aged_candidate, word_in}
 use Rattle.host_plain.proofs.Kept.{length-aged_words, aged_words-next}
 use Rattle.host_plain.specs.Candidates.{NoCandidates}
@@ -45,7 +45,8 @@ aged_words-around words hand n (suc j) round most =
     let less : j < length words = omega (arith, most) in
     let first : wrapped (length words) (hand + (n + j)) ≡ j = ap (wrapped (length words)) far ∙ wrapped-over (length words) j in
     let zeroth : 0 + j ≡ j = omega arith in
-    let other : wrapped (length (aged_words words hand n)) (0 + j) ≡ j = ap (wrapped (length (aged_words words hand n))) zeroth ∙ rw (length-aged_words words hand n) (wrapped-same (length words) j less) in
+    let other : wrapped (length (aged_words words hand n)) (0 + j) ≡ j = ap (wrapped (length (aged_words words hand n))) zeroth
+    ∙ rw (length-aged_words words hand n) (wrapped-same (length words) j less) in
     ap (aged_words words hand) next
     ∙ ap (λ (place : ℕ). slice_set (aged_words words hand (n + j)) place (aged_candidate (word_in (aged_words words hand (n + j)) place))) (first ∙ sym other)
     ∙ ap (λ (ws : List Fields). slice_set ws (wrapped (length (aged_words words hand n)) (0 + j)) (aged_candidate (word_in ws (wrapped (length (aged_words words hand n)) (0 + j))))) before
@@ -105,7 +106,8 @@ aged_words-zero words hand n none = rw none refl
 pub aged_words-both : (words now last : List Fields) (hand behind rest before all count : ℕ) → behind ≡ all → rest ≡ before → hand + all ≡ length words → before ≤ length words → all + before ≡ count →
     now ≡ aged_words words hand behind → last ≡ aged_words now 0 rest → last ≡ aged_words words hand count
 aged_words-both words now last hand behind rest before all count e f round most whole first second =
-    second ∙ ap (aged_words now 0) f ∙ ap (λ (ws : List Fields). aged_words ws 0 before) (first ∙ ap (aged_words words hand) e) ∙ sym (aged_words-around words hand all before round most) ∙ ap (aged_words words hand) whole
+    second ∙ ap (aged_words now 0) f ∙ ap (λ (ws : List Fields). aged_words ws 0 before) (first ∙ ap (aged_words words hand) e) ∙ sym (aged_words-around words hand all before round most)
+    ∙ ap (aged_words words hand) whole
 
 pub aged_words-count : (words now : List Fields) (hand n : ℕ) → now ≡ aged_words words hand n → length now ≡ length words
 aged_words-count words now hand n grown = ap (λ (ws : List Fields). length ws) grown ∙ length-aged_words words hand n

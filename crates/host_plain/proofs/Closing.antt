@@ -9,7 +9,7 @@ use Rattle.std.proofs.lemmas.List.Elements.{All-append, All-push}
 use Rattle.std.proofs.lemmas.List.Sums.{sum_by-append, sum_by-cons}
 use Rattle.page_arena.specs.FrameView.{RegionView, FrameView, IsOf, has_number, missing}
 use Rattle.host_plain.specs.Numbering.{Numbering, is_number, is_taken}
-use Rattle.host_plain.specs.Bodies.{PageParts, BodiesView, IsFramedOf, bodies_view, frames_back, number_of, without_frame}
+use Rattle.host_plain.specs.Bodies.{PageParts, BodiesView, IsFramedOf, bodies_view, frames_back, frame_number_of, without_frame}
 
 -- the frame of the last page comes first
 pub frames_back-append : (pages : List PageParts) (page : PageParts) → frames_back (pages ++ page ∷ []) ≡ option_to_list page.frame ++ frames_back pages
@@ -36,13 +36,14 @@ one-number : (number : ℕ) (frame : Option FrameView) → sum_by (is_number num
 one-number number None = refl
 one-number number (Some frame) = zero-add (is_number number frame.number)
 
-pub back-numbers : (number : ℕ) (pages : List PageParts) → sum_by (is_number number) (numbers_of (frames_back pages)) ≡ sum_by (is_taken number) (map number_of pages)
+pub back-numbers : (number : ℕ) (pages : List PageParts) → sum_by (is_number number) (numbers_of (frames_back pages)) ≡ sum_by (is_taken number) (map frame_number_of pages)
 back-numbers number [] = refl
 back-numbers number (page ∷ pages) =
     let parted : sum_by (is_number number) (numbers_of (frames_back pages ++ option_to_list page.frame)) ≡
     sum_by (is_number number) (numbers_of (frames_back pages)) + sum_by (is_number number) (numbers_of (option_to_list page.frame)) =
-    ap (sum_by (is_number number)) (map-append (λ f. f.number) (frames_back pages) (option_to_list page.frame)) ∙ sum_by-append (is_number number) (numbers_of (frames_back pages)) (numbers_of (option_to_list page.frame)) in
-    omega (arith, parted, back-numbers number pages, one-number number page.frame, sum_by-cons (is_taken number) (number_of page) (map number_of pages))
+    ap (sum_by (is_number number)) (map-append (λ f. f.number) (frames_back pages) (option_to_list page.frame))
+    ∙ sum_by-append (is_number number) (numbers_of (frames_back pages)) (numbers_of (option_to_list page.frame)) in
+    omega (arith, parted, back-numbers number pages, one-number number page.frame, sum_by-cons (is_taken number) (frame_number_of page) (map frame_number_of pages))
 
 -- a number that counts is there
 there : (number : ℕ) (frames : List FrameView) → 1 ≤ sum_by (is_number number) (numbers_of frames) → has_number frames number ≡ true
@@ -63,7 +64,8 @@ not-true : (b : Bool) → b ≡ true → not b ≡ false
 not-true b holds = ap not holds
 
 -- where each number below the count is there as often as in a numbering, none is missing
-pub none-missing : (frames : ℕ) (n : Numbering) (gathered : List FrameView) → ((number : ℕ) → sum_by (is_taken number) n.taken + sum_by (is_number number) n.spare ≡ (if nat_lt number frames then 1 else 0)) →
+pub none-missing : (frames : ℕ) (n : Numbering) (gathered : List FrameView)
+    → ((number : ℕ) → sum_by (is_taken number) n.taken + sum_by (is_number number) n.spare ≡ (if nat_lt number frames then 1 else 0)) →
     ((number : ℕ) → sum_by (is_number number) (numbers_of gathered) ≡ sum_by (is_taken number) n.taken + sum_by (is_number number) n.spare) → missing frames gathered ≡ []
 none-missing frames n gathered once same =
     none-left (λ number. not (has_number gathered number)) 0 frames (λ number low high.

@@ -7,12 +7,12 @@ use Rattle.std.proofs.lemmas.List.{map-set, map-append, get_or-map, length-map, 
 use Rattle.std.proofs.Math.Seq.{take-append_seam}
 use Rattle.std.proofs.lemmas.List.Sums.{sum_by-cons, sum_by-set}
 use Rattle.std.proofs.lemmas.Option.{slice_get-map}
-use Rattle.cmm_storage.specs.StorageView.{write_at}
+use Rattle.cmm_types.specs.Bytes.{with_bytes}
 use Rattle.essa_state.specs.PageBody.{Body, frame_bytes}
 use Rattle.page_arena.specs.FrameView.{RegionView, FrameView, zero_frame, first_frames}
-use Rattle.host_plain.specs.MemoryState.{IsWholeBody, no_body, frameless, with_bytes}
+use Rattle.host_plain.specs.MemoryState.{IsWholeBody, no_body, frameless, body_with_bytes}
 use Rattle.host_plain.specs.Numbering.{number_at, renumbered}
-use Rattle.host_plain.specs.Bodies.{PageParts, BodiesView, body_of, written_parts, without_frame, number_of, frames_in, framed_of, bodies_view, body_in, with_body, opening_bodies}
+use Rattle.host_plain.specs.Bodies.{PageParts, BodiesView, body_of, written_parts, without_frame, frame_number_of, frames_in, framed_of, bodies_view, body_in, with_body, opening_bodies}
 
 -- as many pages as bodies
 pub inside-of : (pages : List PageParts) (free : List FrameView) (frames place : ℕ) (v : BodiesView) → bodies_view pages free frames ≡ v → place < length v.bodies → place < length pages
@@ -24,8 +24,8 @@ pub body-at : (pages : List PageParts) (free : List FrameView) (frames place : �
 body-at pages free frames place page below found = get_or-map body_of pages place page no_body below ∙ ap body_of (sym found)
 
 number-at : (pages : List PageParts) (spare : List ℕ) (place : ℕ) (page : PageParts) → place < length pages → page ≡ slice_index_or pages place page →
-    number_at (record { taken = map number_of pages; spare = spare }) place ≡ number_of page
-number-at pages spare place page below found = get_or-map number_of pages place page None below ∙ ap number_of (sym found)
+    number_at (record { taken = map frame_number_of pages; spare = spare }) place ≡ frame_number_of page
+number-at pages spare place page below found = get_or-map frame_number_of pages place page None below ∙ ap frame_number_of (sym found)
 
 same-view : (a b : List Body) (s t : List (Option ℕ)) (x y : List ℕ) (frames : ℕ) → a ≡ b → s ≡ t → x ≡ y →
     ◌≡◌ {A = BodiesView} (record { bodies = a; numbers = record { taken = s; spare = x }; frames = frames }) (record { bodies = b; numbers = record { taken = t; spare = y }; frames = frames })
@@ -49,7 +49,7 @@ freed-view pages free all frames place old new frame body below found had gone m
     let number : number_at v.numbers place ≡ Some frame.number = number-at pages v.numbers.spare place old below found ∙ ap (λ (o : Option FrameView). option_map (λ f. f.number) o) had in
     same-view _ _ _ _ _ _ frames
     (map-set body_of pages place new ∙ ap (slice_set v.bodies place) made)
-    (map-set number_of pages place new ∙ ap (λ (o : Option FrameView). slice_set v.numbers.taken place (option_map (λ f. f.number) o)) gone)
+    (map-set frame_number_of pages place new ∙ ap (λ (o : Option FrameView). slice_set v.numbers.taken place (option_map (λ f. f.number) o)) gone)
     (ap (map (λ f. f.number)) grown ∙ map-append (λ f. f.number) free (frame ∷ []) ∙ ap (λ (o : Option ℕ). v.numbers.spare ++ option_to_list o) (sym number))
     ∙ renumbered-as v place body true false was now
 
@@ -67,18 +67,19 @@ taken-view pages free frames place old new frame body below found had last got n
     ap (λ n. slice_get v.numbers.spare (n - 1)) count ∙ slice_get-map (λ f. f.number) free (length free - 1) ∙ ap (λ (o : Option FrameView). option_map (λ f. f.number) o) last in
     same-view _ _ _ _ _ _ frames
     (map-set body_of pages place new ∙ ap (slice_set v.bodies place) made)
-    (map-set number_of pages place new ∙ ap (slice_set v.numbers.taken place) (got ∙ sym number))
+    (map-set frame_number_of pages place new ∙ ap (slice_set v.numbers.taken place) (got ∙ sym number))
     (sym (take-map (λ f. f.number) (length free - 1) free) ∙ ap (λ n. take (n - 1) v.numbers.spare) (sym count))
     ∙ renumbered-as v place body false true was now
 
 -- the page's bytes changed
 written-view : (pages : List PageParts) (free : List FrameView) (frames place : ℕ) (old new : PageParts) (body : Body) → place < length pages →
-    old ≡ slice_index_or pages place old → number_of new ≡ number_of old → body_of new ≡ body →
+    old ≡ slice_index_or pages place old → frame_number_of new ≡ frame_number_of old → body_of new ≡ body →
     bodies_view (slice_set pages place new) free frames ≡ record (bodies_view pages free frames) { bodies = slice_set (map body_of pages) place body }
 written-view pages free frames place old new body below found number made =
     same-view _ _ _ _ _ _ frames
     (map-set body_of pages place new ∙ ap (slice_set (map body_of pages) place) made)
-    (map-set number_of pages place new ∙ ap (slice_set (map number_of pages) place) (number ∙ sym (number-at pages [] place old below found)) ∙ set-get_or (map number_of pages) place None)
+    (map-set frame_number_of pages place new ∙ ap (slice_set (map frame_number_of pages) place) (number ∙ sym (number-at pages [] place old below found))
+    ∙ set-get_or (map frame_number_of pages) place None)
     refl
 
 no-frame : (o : Option FrameView) → is_some (option_map (λ f. f.bytes) o) ≡ false → o ≡ None
@@ -135,26 +136,28 @@ module _ (pages : List PageParts) (free : List FrameView) (frames place : ℕ) (
       ap (λ (l : List FrameView). bodies_view (slice_set pages place new) l frames) (sym rest)
       ∙ subst (λ (w : BodiesView). bodies_view (slice_set pages place new) (take (length free - 1) free) frames ≡ with_body w place (f (body_in w place))) seen
       (taken-view pages free frames place old new frame (f (body_in (bodies_view pages free frames) place)) inside found had there
-      (ap (λ (o : Option FrameView). option_map (λ f. f.number) o) got) (ap (λ (b : Body). is_some b.frame) (sym becomes) ∙ ap (λ (o : Option FrameView). is_some (option_map (λ f. f.bytes) o)) got) becomes)
+      (ap (λ (o : Option FrameView). option_map (λ f. f.number) o) got)
+      (ap (λ (b : Body). is_some b.frame) (sym becomes) ∙ ap (λ (o : Option FrameView). is_some (option_map (λ f. f.bytes) o)) got) becomes)
 
-  pub written : number_of new ≡ number_of old → bodies_view (slice_set pages place new) free frames ≡ record v { bodies = slice_set v.bodies place (f (body_in v place)) }
+  pub written : frame_number_of new ≡ frame_number_of old → bodies_view (slice_set pages place new) free frames ≡ record v { bodies = slice_set v.bodies place (f (body_in v place)) }
   written number =
       subst (λ (w : BodiesView). bodies_view (slice_set pages place new) free frames ≡ record w { bodies = slice_set w.bodies place (f (body_in w place)) }) seen
       (written-view pages free frames place old new (f (body_in (bodies_view pages free frames) place)) inside found number becomes)
 
 -- a page whose frame's bytes are written
-pub written-body : (page : PageParts) (off : ℕ) (bytes : List ℕ) → is_some page.frame ≡ true → body_of (written_parts page off bytes) ≡ with_bytes (body_of page) (write_at (frame_bytes (body_of page)) off bytes)
+pub written-body : (page : PageParts) (off : ℕ) (bytes : List ℕ) → is_some page.frame ≡ true
+    → body_of (written_parts page off bytes) ≡ body_with_bytes (body_of page) (with_bytes (frame_bytes (body_of page)) off bytes)
 written-body page off bytes some = at page.frame some
   where
     at : (o : Option FrameView) → is_some o ≡ true →
-        let p : PageParts = record page { frame = o } in body_of (written_parts p off bytes) ≡ with_bytes (body_of p) (write_at (frame_bytes (body_of p)) off bytes)
+        let p : PageParts = record page { frame = o } in body_of (written_parts p off bytes) ≡ body_with_bytes (body_of p) (with_bytes (frame_bytes (body_of p)) off bytes)
     at None some = absurd (cc)
     at (Some frame) some = refl
 
-pub written-number : (page : PageParts) (off : ℕ) (bytes : List ℕ) → number_of (written_parts page off bytes) ≡ number_of page
+pub written-number : (page : PageParts) (off : ℕ) (bytes : List ℕ) → frame_number_of (written_parts page off bytes) ≡ frame_number_of page
 written-number page off bytes = at page.frame
   where
-    at : (o : Option FrameView) → let p : PageParts = record page { frame = o } in number_of (written_parts p off bytes) ≡ number_of p
+    at : (o : Option FrameView) → let p : PageParts = record page { frame = o } in frame_number_of (written_parts p off bytes) ≡ frame_number_of p
     at None = refl
     at (Some frame) = refl
 
@@ -173,7 +176,7 @@ without-bodies : (blocks : List (List ℕ)) → map body_of (map without_frame b
 without-bodies [] = refl
 without-bodies (block ∷ blocks) = ap (λ (bs : List Body). frameless block ∷ bs) (without-bodies blocks)
 
-without-numbers : (blocks : List (List ℕ)) → map number_of (map without_frame blocks) ≡ replicate (length blocks) None
+without-numbers : (blocks : List (List ℕ)) → map frame_number_of (map without_frame blocks) ≡ replicate (length blocks) None
 without-numbers [] = refl
 without-numbers (block ∷ blocks) = ap (λ (ns : List (Option ℕ)). None ∷ ns) (without-numbers blocks)
 
@@ -184,7 +187,7 @@ in-order region (number ∷ numbers) = ap (λ (ns : List ℕ). number ∷ ns) (i
 pub opening-view : (blocks : List (List ℕ)) (frames : ℕ) (region : RegionView) (pages : List PageParts) (free : List FrameView) → pages ≡ map without_frame blocks → free ≡ first_frames region →
     region.count ≡ frames → bodies_view pages free frames ≡ opening_bodies blocks frames
 opening-view blocks frames region pages free made all count =
-    same-view _ _ _ _ _ _ frames (ap (map body_of) made ∙ without-bodies blocks) (ap (map number_of) made ∙ without-numbers blocks)
+    same-view _ _ _ _ _ _ frames (ap (map body_of) made ∙ without-bodies blocks) (ap (map frame_number_of) made ∙ without-numbers blocks)
     (ap (map (λ frame. frame.number)) all ∙ in-order region (range_with_len 0 region.count) ∙ ap (range_with_len 0) count)
 
 pub whole-bodies : (pages : List PageParts) → All (λ page. IsWholeBody (body_of page)) pages → All IsWholeBody (map body_of pages)

@@ -11,23 +11,23 @@ use Rattle.cmm_types.specs.declared.page.Move.TheVariants.{Discard, Preserve, Br
 use Rattle.cmm_types.specs.declared.page.Refused.{Refused as Reason}
 use Rattle.cmm_io.specs.FailurePlan.{FailurePlan, fails_next}
 use Rattle.essa_state.specs.declared.fields.Fields.{Fields}
-use Rattle.essa_state.specs.StateWord.{is_resident, is_permitted, is_preserved}
+use Rattle.essa_state.specs.StateWord.{is_resident, is_permitted, is_preserved, opening_word}
 use Rattle.essa_state.specs.Moves.{move_answer, discard_answer, preserve_answer, discarded, preserved, brought, aged}
-use Rattle.essa_state.specs.WordLaws.{moved_permitted}
+use Rattle.essa_state.specs.Laws.WordLaws.{moved_permitted}
 use Rattle.essa_state.specs.PageBody.{Body, Makes, moved_body, actual}
 use Rattle.essa_state.specs.PageValue.{MayBecome}
-use Rattle.essa_state.specs.PageValueLaws.{move-may_become, move-fits, MayBecome-refl, MayBecome-trans}
+use Rattle.essa_state.specs.Laws.PageValueLaws.{move-may_become, move-fits, MayBecome-refl, MayBecome-trans}
 use Rattle.host_clock.specs.Victim.{is_candidate, is_takeable, from_hand, wrapped, victim_after, victim_of}
 use Rattle.host_clock.proofs.Cycle.{place_candidate}
 use Rattle.host_plain.specs.declared.moves.ApplyError.TheVariants.{Paging}
-use Rattle.host_plain.specs.MemoryState.{MemoryState, IsMemory, IsPage, IsWholeBody, opening_word, no_body, word_at, body_at, value_at, with_word, with_page, with_moved, frames_of}
-use Rattle.host_plain.specs.Eviction.{Paged, aged_words, aged_candidate, word_in, passed, passed_by, discarded_at, preserved_at, brought_at, aged_at, moved_page, reclaimed_page, evicted_at, evicted, freed}
-use Rattle.host_plain.specs.HostMoves.{Applied, Reclaimed, answered, brought_after, allowed_move, applied_as, applied, counted, more_at, one_more, reclaimed}
+use Rattle.host_plain.specs.MemoryState.{MemoryState, IsMemory, IsPage, IsWholeBody, no_body, word_at, body_at, memory_value_at, with_word, memory_with_page, with_moved, frames_of}
+use Rattle.host_plain.specs.Eviction.{Paged, aged_words, aged_candidate, word_in, words_passed, passed_by, discarded_at, preserved_at, brought_at, aged_at, moved_page, reclaimed_page, evicted_at, evicted, frame_freed}
+use Rattle.host_plain.specs.HostMoves.{Applied, Reclaimed, move_answered, brought_after, allowed_move, applied_as, applied, reclaim_counted, more_at, one_more, reclaimed}
 use Rattle.host_plain.specs.Keeping.{HostKeeps, SamePage}
 use Rattle.host_plain.proofs.Kept.{page_kept, word_kept, length-aged_words, hand_kept, wrapped-below, aged-permitted, aged-resident, aged_words-resident, evicted-frees, evicted-other, other_place}
 
 pub keeps-refl : (m : MemoryState) → IsMemory m → HostKeeps m m
-keeps-refl m sound = record { sound = sound; count = refl; frames = refl; busy = λ place. refl; values = λ place. MayBecome-refl (value_at m place) }
+keeps-refl m sound = record { sound = sound; count = refl; frames = refl; busy = λ place. refl; values = λ place. MayBecome-refl (memory_value_at m place) }
 
 pub keeps-trans : (m k l : MemoryState) → HostKeeps m k → HostKeeps k l → HostKeeps m l
 keeps-trans m k l first second = record {
@@ -82,10 +82,10 @@ busy_set m place word inside same p = elim (cases_eq p place) [
 ]
 
 values_set : (m : MemoryState) (place : ℕ) (word : Fields) (body : Body) → place < length m.words → place < length m.bodies →
-    MayBecome (value_at m place) (actual word body) → (p : ℕ) → MayBecome (value_at m p) (value_at (with_page m place word body) p)
+    MayBecome (memory_value_at m place) (actual word body) → (p : ℕ) → MayBecome (memory_value_at m p) (memory_value_at (memory_with_page m place word body) p)
 values_set m place word body inside other may p = elim (cases_eq p place) [
   | inl e ↦ rw (e, get_or-set_same m.words place word opening_word inside, get_or-set_same m.bodies place body no_body other) may
-  | inr n ↦ rw (get_or-set_other m.words place p word opening_word n, get_or-set_other m.bodies place p body no_body n) (MayBecome-refl (value_at m p))
+  | inr n ↦ rw (get_or-set_other m.words place p word opening_word n, get_or-set_other m.bodies place p body no_body n) (MayBecome-refl (memory_value_at m p))
 ]
 
 -- a move that isn't refused, with a frame where it needs one
@@ -99,7 +99,8 @@ moved-keeps m place action w' sound below answer room =
       frames = refl;
       busy = busy_set m place w' below (moved-busy (word_at m place) action w' answer);
       values = values_set m place w' (moved_body action (body_at m place)) below other
-          (move-may_become (word_at m place) (body_at m place) action w' (moved_body action (body_at m place)) (made (move_answer (word_at m place) action) action (word_at m place) (body_at m place) w' answer));
+          (move-may_become (word_at m place) (body_at m place) action w' (moved_body action (body_at m place))
+          (made (move_answer (word_at m place) action) action (word_at m place) (body_at m place) w' answer));
     }
 
 discard-made : (w : Fields) → is_ok (discard_answer w) ≡ true → discard_answer w ≡ Ok (discarded w)
@@ -132,7 +133,7 @@ brought_at-keeps m place sound below there frame =
 -- a word at a place that says the same of the page
 word-keeps : (m : MemoryState) (place : ℕ) (word : Fields) → IsMemory m → place < length m.words → is_permitted word ≡ true →
     is_resident word.content ≡ is_resident (word_at m place).content → word.busy ≡ (word_at m place).busy →
-    actual word (body_at m place) ≡ value_at m place → HostKeeps m (with_word m place word)
+    actual word (body_at m place) ≡ memory_value_at m place → HostKeeps m (with_word m place word)
 word-keeps m place word sound below permitted same busy value = record {
   sound = word_kept m place word sound below permitted same;
   count = length-set m.words place word;
@@ -140,7 +141,7 @@ word-keeps m place word sound below permitted same busy value = record {
   busy = busy_set m place word below busy;
   values = λ p. elim (cases_eq p place) [
     | inl e ↦ rw (e, get_or-set_same m.words place word opening_word below) (inl value)
-    | inr n ↦ rw (get_or-set_other m.words place p word opening_word n) (MayBecome-refl (value_at m p))
+    | inr n ↦ rw (get_or-set_other m.words place p word opening_word n) (MayBecome-refl (memory_value_at m p))
   ];
 }
 
@@ -175,10 +176,11 @@ passed-most referenced count hand place first second = grind arith
 pub passed_by-keeps : (m : MemoryState) (place hand : ℕ) → IsMemory m → place < length m.words → hand < length m.words → HostKeeps m (passed_by m (place, hand))
 unfolding passed_by
 passed_by-keeps m place hand sound below inside =
-    let most : passed m.words m.hand place ≤ length m.words = passed-most (word_in m.words place).referenced (length m.words) m.hand place sound.hand below in
-    let aged = aged_words-keeps m (passed m.words m.hand place) sound most in
+    let most : words_passed m.words m.hand place ≤ length m.words = passed-most (word_in m.words place).referenced (length m.words) m.hand place sound.hand below in
+    let aged = aged_words-keeps m (words_passed m.words m.hand place) sound most in
     record {
-      sound = hand_kept (record m { words = aged_words m.words m.hand (passed m.words m.hand place) }) hand aged.sound (rw (length-aged_words m.words m.hand (passed m.words m.hand place)) inside);
+      sound = hand_kept (record m { words = aged_words m.words m.hand (words_passed m.words m.hand place) }) hand aged.sound
+          (rw (length-aged_words m.words m.hand (words_passed m.words m.hand place)) inside);
       count = aged.count;
       frames = refl;
       busy = aged.busy;
@@ -236,8 +238,8 @@ unfolding passed_by
 evicted_at-keeps m place hand pager sound found =
     let aged = passed_by-keeps m place hand sound found.0 found.1 in
     keeps-trans m (passed_by m (place, hand)) _ aged
-    (reclaimed_page-keeps (passed_by m (place, hand)) place pager aged.sound (rw (length-aged_words m.words m.hand (passed m.words m.hand place)) found.0)
-    (aged_words-resident m.words m.hand (passed m.words m.hand place) place ∙ candidate-resident (word_in m.words place) found.2))
+    (reclaimed_page-keeps (passed_by m (place, hand)) place pager aged.sound (rw (length-aged_words m.words m.hand (words_passed m.words m.hand place)) found.0)
+    (aged_words-resident m.words m.hand (words_passed m.words m.hand place) place ∙ candidate-resident (word_in m.words place) found.2))
 
 pub evicted-keeps : (m : MemoryState) (pager : FailurePlan) → IsMemory m → HostKeeps m (evicted m pager).memory
 unfolding evicted
@@ -247,8 +249,8 @@ evicted-keeps m pager sound = at (victim_of m.words m.hand) (victim-sound m.word
     at None found = keeps-refl m sound
     at (Some (place, hand)) found = evicted_at-keeps m place hand pager sound found
 
-pub freed-keeps : (m : MemoryState) (pager : FailurePlan) → IsMemory m → HostKeeps m (freed m pager).memory
-unfolding freed
+pub freed-keeps : (m : MemoryState) (pager : FailurePlan) → IsMemory m → HostKeeps m (frame_freed m pager).memory
+unfolding frame_freed
 freed-keeps m pager sound = at (nat_lt 0 m.free)
   where
     at : (b : Bool) → HostKeeps m (if b then record { done = true; memory = m; pager = pager } else evicted m pager).memory
@@ -274,8 +276,8 @@ evicted_at-absent m place hand p pager found absent =
       other_body _ (passed_by m (place, hand)) place p pager (other_place m.words place p resident absent),
     )
 
-pub freed-absent : (m : MemoryState) (pager : FailurePlan) (p : ℕ) → IsMemory m → is_resident (word_at m p).content ≡ false → SamePage m p (freed m pager).memory
-unfolding freed evicted
+pub freed-absent : (m : MemoryState) (pager : FailurePlan) (p : ℕ) → IsMemory m → is_resident (word_at m p).content ≡ false → SamePage m p (frame_freed m pager).memory
+unfolding frame_freed evicted
 freed-absent m pager p sound absent = at (nat_lt 0 m.free)
   where
     from : (v : Option (ℕ × ℕ)) → IfSome v (IsVictim m.words) → SamePage m p (evicted_at m v pager).memory
@@ -287,8 +289,8 @@ freed-absent m pager p sound absent = at (nat_lt 0 m.free)
     at false = from (victim_of m.words m.hand) (victim-sound m.words m.hand sound.hand)
 
 -- where a frame was found, one is free
-pub freed-frees : (m : MemoryState) (pager : FailurePlan) → IsMemory m → (freed m pager).done ≡ true → 0 < (freed m pager).memory.free
-unfolding freed evicted
+pub freed-frees : (m : MemoryState) (pager : FailurePlan) → IsMemory m → (frame_freed m pager).done ≡ true → 0 < (frame_freed m pager).memory.free
+unfolding frame_freed evicted
 freed-frees m pager sound = at (nat_lt 0 m.free) refl
   where
     from : (v : Option (ℕ × ℕ)) → IfSome v (IsVictim m.words) → (evicted_at m v pager).done ≡ true → 0 < (evicted_at m v pager).memory.free
@@ -311,18 +313,18 @@ age-of w h = grind arith
 
 -- a preserved page that gets a free frame, if one was found
 pub brought_after-keeps : (m : MemoryState) (place : ℕ) (pager : FailurePlan) → IsMemory m → place < length m.words → is_preserved (word_at m place).content ≡ true →
-    HostKeeps m (brought_after (freed m pager) place).memory
-brought_after-keeps m place pager sound below there = at (freed m pager).done refl
+    HostKeeps m (brought_after (frame_freed m pager) place).memory
+brought_after-keeps m place pager sound below there = at (frame_freed m pager).done refl
   where
-    found : HostKeeps m (freed m pager).memory
+    found : HostKeeps m (frame_freed m pager).memory
     found = freed-keeps m pager sound
 
-    at : (b : Bool) → (freed m pager).done ≡ b → HostKeeps m (if b then moved_page Bring (freed m pager).memory place (freed m pager).pager else freed m pager).memory
+    at : (b : Bool) → (frame_freed m pager).done ≡ b → HostKeeps m (if b then moved_page Bring (frame_freed m pager).memory place (frame_freed m pager).pager else frame_freed m pager).memory
     at true done =
         let still = freed-absent m pager place sound (preserved-absent (word_at m place) there) in
-        keeps-trans m (freed m pager).memory _ found
-        (keeps-either (fails_next (freed m pager).pager) (freed m pager).memory (freed m pager).memory _ (keeps-refl (freed m pager).memory found.sound)
-        (brought_at-keeps (freed m pager).memory place found.sound (rw found.count below) (rw still.0 there) (freed-frees m pager sound done)))
+        keeps-trans m (frame_freed m pager).memory _ found
+        (keeps-either (fails_next (frame_freed m pager).pager) (frame_freed m pager).memory (frame_freed m pager).memory _ (keeps-refl (frame_freed m pager).memory found.sound)
+        (brought_at-keeps (frame_freed m pager).memory place found.sound (rw found.count below) (rw still.0 there) (freed-frees m pager sound done)))
     at false done = found
 
 -- a move that isn't refused
@@ -334,10 +336,11 @@ allowed_move-keeps Preserve m place pager sound below allowed =
 allowed_move-keeps Bring m place pager sound below allowed = brought_after-keeps m place pager sound below (bring-of (word_at m place) allowed)
 allowed_move-keeps Age m place pager sound below allowed = aged_at-keeps m place sound below (age-of (word_at m place) allowed)
 
-pub answered-memory : (step : Paged) → (answered step).memory ≡ step.memory
+pub answered-memory : (step : Paged) → (move_answered step).memory ≡ step.memory
 answered-memory step = at step.done
   where
-    at : (b : Bool) → (let r : Applied = if b then record { answer = Ok tt; memory = step.memory; pager = step.pager } else record { answer = Err Paging; memory = step.memory; pager = step.pager } in r).memory ≡ step.memory
+    at : (b : Bool) → (let r : Applied = if b then record { answer = Ok tt; memory = step.memory; pager = step.pager } else
+        record { answer = Err Paging; memory = step.memory; pager = step.pager } in r).memory ≡ step.memory
     at true = refl
     at false = refl
 
@@ -350,10 +353,11 @@ applied-keeps m place action pager sound below = at (move_answer (word_at m plac
     at (Ok moved) answer = rw (answered-memory (allowed_move action m place pager)) (allowed_move-keeps action m place pager sound below (ap is_ok answer))
     at (Err why) answer = keeps-refl m sound
 
-counted-memory : (count : ℕ) (step : Paged) → (counted count step).memory ≡ step.memory
+counted-memory : (count : ℕ) (step : Paged) → (reclaim_counted count step).memory ≡ step.memory
 counted-memory count step = at step.done
   where
-    at : (b : Bool) → (let r : Reclaimed = if b then record { count = count + 1; paging = false; memory = step.memory; pager = step.pager } else record { count = count; paging = true; memory = step.memory; pager = step.pager } in r).memory ≡ step.memory
+    at : (b : Bool) → (let r : Reclaimed = if b then record { count = count + 1; paging = false; memory = step.memory; pager = step.pager } else
+        record { count = count; paging = true; memory = step.memory; pager = step.pager } in r).memory ≡ step.memory
     at true = refl
     at false = refl
 

@@ -6,7 +6,7 @@ use Rattle.std.proofs.lemmas.Bool.{cases_eq, cases_lt}
 use Rattle.std.proofs.lemmas.Grind.{common_steps}
 use Rattle.std.proofs.lemmas.List.{set-get_or, get_or_default, length-replicate}
 use Rattle.essa_state.specs.declared.fields.Fields.{Fields}
-use Rattle.essa_state.specs.StateWord.{is_resident, is_permitted, is_zero}
+use Rattle.essa_state.specs.StateWord.{is_resident, is_permitted, is_zero, opening_word}
 use Rattle.essa_state.specs.declared.orders.Order.{Order}
 use Rattle.essa_state.specs.declared.orders.Order.TheVariants.{Get}
 use Rattle.cmm_types.specs.declared.page.TheConstants.{PAGE}
@@ -15,12 +15,12 @@ use Rattle.cmm_types.specs.declared.page.Move.TheVariants.{Discard, Preserve, Ag
 use Rattle.essa_state.specs.Moves.{move_answer, discard_answer, brought}
 use Rattle.cmm_io.specs.FailurePlan.{FailurePlan, fails_next}
 use Rattle.essa_state.specs.Orders.{after_order}
-use Rattle.essa_state.specs.WordLaws.{ordered-permitted}
-use Rattle.cmm_storage.specs.StorageView.{write_at, zeros}
+use Rattle.essa_state.specs.Laws.WordLaws.{ordered-permitted}
+use Rattle.cmm_types.specs.Bytes.{with_bytes, zero_page}
 use Rattle.essa_state.specs.PageBody.{Body, FitsWord, frame_bytes}
-use Rattle.host_plain.specs.Eviction.{aged_words, aged_candidate, word_in, passed, passed_by, moved_page, reclaimed_page, preserved_at}
+use Rattle.host_plain.specs.Eviction.{aged_words, aged_candidate, word_in, words_passed, passed_by, moved_page, reclaimed_page, preserved_at}
 use Rattle.host_clock.specs.Victim.{wrapped}
-use Rattle.host_plain.specs.MemoryState.{MemoryState, word_at, body_at, with_word, with_page, with_moved, with_use, stored_at, IsMemory, IsNumbering, IsPage, with_bytes, opening_word, no_body, frames_of, resident_of}
+use Rattle.host_plain.specs.MemoryState.{MemoryState, word_at, body_at, with_word, memory_with_page, with_moved, with_use, stored_at, IsMemory, IsNumbering, IsPage, body_with_bytes, no_body, frames_of, resident_of}
 use Rattle.host_plain.specs.Numbering.{Numbering, number_at, renumbered}
 use Rattle.host_plain.specs.Touches.{zeroed_at}
 use Rattle.host_plain.proofs.Numbers.{numbers_same, resident_set, renumbered_kept, renumbered-spare}
@@ -44,7 +44,7 @@ pages_set words bodies place word body same below page pages k inside =
 -- another word and body at a place, with as many free frames and such numbers as that leaves
 pub page_with : (m : MemoryState) (place : ℕ) (word : Fields) (body : Body) (free : ℕ) (numbers : Numbering) → IsMemory m → place < length m.words → IsPage word body →
     free + frames_of word ≡ m.free + frames_of (word_at m place) → length numbers.spare ≡ free → IsNumbering m.frames (slice_set m.words place word) numbers →
-    IsMemory (record (with_page m place word body) { free = free; numbers = numbers })
+    IsMemory (record (memory_with_page m place word body) { free = free; numbers = numbers })
 page_with m place word body free numbers sound below page balance spare numbered = record {
   same = length-set m.bodies place body ∙ sound.same ∙ sym (length-set m.words place word);
   few = rw (length-set m.words place word) sound.few;
@@ -88,7 +88,7 @@ page_kept m place word body sound below page room =
 
 -- a page that is resident exactly where it was
 pub page_same : (m : MemoryState) (place : ℕ) (word : Fields) (body : Body) → IsMemory m → place < length m.words → IsPage word body →
-    is_resident word.content ≡ is_resident (word_at m place).content → IsMemory (with_page m place word body)
+    is_resident word.content ≡ is_resident (word_at m place).content → IsMemory (memory_with_page m place word body)
 page_same m place word body sound below page same =
     page_with m place word body m.free m.numbers sound below page (ap (λ (b : Bool). m.free + (if b then 1 else 0)) same) sound.spare
     (numbers_same m.frames m.words (slice_set m.words place word) m.numbers (length-set m.words place word) (resident_set m.words place word same below) sound.numbers)
@@ -122,7 +122,7 @@ use_kept m place sound below resident =
 stored-permitted : (old : Fields) → is_permitted old ≡ true → is_resident old.content ≡ true → is_permitted (record old { changed = true }) ≡ true
 stored-permitted old permitted resident = grind arith
 
-written-length : (old new : List ℕ) (off : ℕ) → length old ≡ PAGE → off + length new ≤ PAGE → length (write_at old off new) ≡ PAGE
+written-length : (old new : List ℕ) (off : ℕ) → length old ≡ PAGE → off + length new ≤ PAGE → length (with_bytes old off new) ≡ PAGE
 written-length old new off whole within = grind (arith, common_steps)
 
 -- a resident page whose bytes are written
@@ -130,7 +130,7 @@ pub store_kept : (m : MemoryState) (place off : ℕ) (bytes : List ℕ) → IsMe
     IsMemory (stored_at m place off bytes)
 store_kept m place off bytes sound below resident within =
     let page = sound.pages place below in
-    page_same m place (record (word_at m place) { changed = true }) (with_bytes (body_at m place) (write_at (frame_bytes (body_at m place)) off bytes)) sound below
+    page_same m place (record (word_at m place) { changed = true }) (body_with_bytes (body_at m place) (with_bytes (frame_bytes (body_at m place)) off bytes)) sound below
     (record {
       permitted = stored-permitted (word_at m place) page.permitted resident;
       fits = sym resident;
@@ -141,15 +141,12 @@ store_kept m place off bytes sound below resident within =
 pub frames_of-resident : (word : Fields) → is_resident word.content ≡ true → frames_of word ≡ 1
 frames_of-resident word resident = ap (λ b. if b then 1 else 0) resident
 
-pub frames_of-absent : (word : Fields) → is_resident word.content ≡ false → frames_of word ≡ 0
-frames_of-absent word absent = ap (λ b. if b then 1 else 0) absent
-
 zeroed-page : (old : Fields) → is_permitted old ≡ true → is_zero old.content ≡ true →
     (is_permitted (record old { content = Resident }) ≡ true) × (is_resident old.content ≡ false)
 zeroed-page old permitted blank = grind arith
 
-zeros-whole : length zeros ≡ PAGE
-unfolding zeros
+zeros-whole : length zero_page ≡ PAGE
+unfolding zero_page
 zeros-whole = length-replicate {A = ℕ} PAGE 0
 
 -- a page without contents that gets a frame of the free ones
@@ -157,7 +154,7 @@ pub zeroed_kept : (m : MemoryState) (place : ℕ) → IsMemory m → place < len
 zeroed_kept m place sound below blank frame =
     let page = sound.pages place below in
     let zeroed = zeroed-page (word_at m place) page.permitted blank in
-    page_kept m place (brought (word_at m place)) (with_bytes (body_at m place) zeros) sound below
+    page_kept m place (brought (word_at m place)) (body_with_bytes (body_at m place) zero_page) sound below
     (record { permitted = zeroed.0; fits = refl; whole = record { block = page.whole.block; bytes = λ some. zeros-whole } })
     (omega (arith, frame))
 
@@ -248,7 +245,7 @@ pub evicted-frees : (m : MemoryState) (place hand : ℕ) (pager : FailurePlan) �
 unfolding passed_by
 evicted-frees m place hand pager resident done =
     reclaimed-frees (passed_by m (place, hand)) place pager
-    (aged_words-resident m.words m.hand (passed m.words m.hand place) place ∙ resident) done
+    (aged_words-resident m.words m.hand (words_passed m.words m.hand place) place ∙ resident) done
 
 absent-stays : (word : Fields) → is_resident word.content ≡ false → aged_candidate word ≡ word
 absent-stays word absent = grind arith
@@ -290,7 +287,7 @@ pub evicted-other : (m : MemoryState) (place hand p : ℕ) (pager : FailurePlan)
 unfolding passed_by reclaimed_page
 evicted-other m place hand p pager resident absent =
     other_by _ (passed_by m (place, hand)) place p pager (other_place m.words place p resident absent)
-    ∙ aged_words-other m.words m.hand (passed m.words m.hand place) p absent
+    ∙ aged_words-other m.words m.hand (words_passed m.words m.hand place) p absent
 
 count_after : (b : Bool) (m : MemoryState) (place : ℕ) (pager : FailurePlan) →
     length (moved_page (if b then Discard else Preserve) m place pager).memory.words ≡ length m.words
@@ -304,7 +301,7 @@ count_after false m place pager = kept (fails_next pager)
 pub evicted-count : (m : MemoryState) (place hand : ℕ) (pager : FailurePlan) →
     length (reclaimed_page (passed_by m (place, hand)) place pager).memory.words ≡ length m.words
 unfolding passed_by reclaimed_page
-evicted-count m place hand pager = count_after _ (passed_by m (place, hand)) place pager ∙ length-aged_words m.words m.hand (passed m.words m.hand place)
+evicted-count m place hand pager = count_after _ (passed_by m (place, hand)) place pager ∙ length-aged_words m.words m.hand (words_passed m.words m.hand place)
 
 aged-page : (old word : Fields) → is_permitted old ≡ true → move_answer old Age ≡ Ok word → (is_permitted word ≡ true) × (is_resident word.content ≡ is_resident old.content)
 aged-page old word permitted answer = grind arith

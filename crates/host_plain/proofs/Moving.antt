@@ -9,23 +9,20 @@ use Rattle.cmm_types.specs.declared.page.Refused.{Refused as Reason}
 use Rattle.cmm_io.specs.Faults.{HasRisen}
 use Rattle.cmm_io.specs.FailurePlan.{FailurePlan, fails_next}
 use Rattle.essa_state.specs.declared.fields.Fields.{Fields}
-use Rattle.essa_state.specs.StateWord.{is_resident}
+use Rattle.essa_state.specs.StateWord.{is_resident, opening_word}
 use Rattle.essa_state.specs.Moves.{move_answer, discarded, preserved, brought, aged}
 use Rattle.host_clock.specs.Victim.{is_candidate}
 use Rattle.host_plain.specs.declared.moves.ApplyError.{ApplyError}
 use Rattle.host_plain.specs.declared.moves.ApplyError.TheVariants.{Refused, Paging}
-use Rattle.host_plain.specs.MemoryState.{MemoryState, IsMemory, word_at, opening_word, resident_of}
-use Rattle.host_plain.specs.Eviction.{Paged, moved_page, preserved_at, brought_at, freed}
+use Rattle.host_plain.specs.MemoryState.{MemoryState, IsMemory, word_at, resident_of}
+use Rattle.host_plain.specs.Eviction.{Paged, moved_page, preserved_at, brought_at, frame_freed}
 use Rattle.host_plain.specs.HostMoves.{Applied, allowed_move, applied_as, applied}
 use Rattle.host_plain.specs.Keeping.{SamePage, FaultsOf, is_made, faults_of}
-use Rattle.host_plain.specs.HostState.{HostState, IsHost, start_of, pages_of, move_of, after_move, reclaim_of, ApplyTells}
+use Rattle.host_plain.specs.HostState.{HostState, IsHost, first_place, pages_of, move_of, after_move, reclaim_of, ApplyTells}
 use Rattle.host_plain.proofs.Keeping.{freed-absent, freed-keeps}
 use Rattle.host_plain.proofs.Calling.{applied-faults, reclaimed-tells, some-to_take, resident-candidate}
 use Rattle.host_plain.proofs.Places.{place-below}
 use Rattle.host_plain.proofs.Sound.{none-busy, reclaimed-keeps_host}
-
-moved-is : (w word : Fields) (action : Move) → move_answer w action ≡ Ok word → is_ok (move_answer w action) ≡ true
-moved-is w word action e = ap is_ok e
 
 -- what a step that makes a move leaves of its page: the word by the table, or all as it was
 abbrev MoveLeaves : Bool → MemoryState → ℕ → Move → MemoryState → Type 0
@@ -59,25 +56,26 @@ allowed-leaves Discard m place pager sound below allowed =
 allowed-leaves Preserve m place pager sound below allowed =
     paged-leaves (fails_next pager) m m (preserved_at m place) place Preserve (refl, refl)
     (preserve-word (word_at m place) allowed ∙ ap (λ (w : Fields). let r : Result Fields Reason = Ok w in r) (sym (get_or-set_same m.words place (preserved (word_at m place)) opening_word below)))
-allowed-leaves Bring m place pager sound below allowed = at (freed m pager).done refl
+allowed-leaves Bring m place pager sound below allowed = at (frame_freed m pager).done refl
   where
-    still : SamePage m place (freed m pager).memory
+    still : SamePage m place (frame_freed m pager).memory
     still = freed-absent m pager place sound (bring-absent (word_at m place) allowed)
 
-    count : place < length (freed m pager).memory.words
+    count : place < length (frame_freed m pager).memory.words
     count = rw (freed-keeps m pager sound).count below
 
-    word : move_answer (word_at m place) Bring ≡ Ok (word_at (brought_at (freed m pager).memory place) place)
+    word : move_answer (word_at m place) Bring ≡ Ok (word_at (brought_at (frame_freed m pager).memory place) place)
     word =
         bring-word (word_at m place) allowed
         ∙ ap (λ (w : Fields). let r : Result Fields Reason = Ok (brought w) in r) (sym still.0)
-        ∙ ap (λ (w : Fields). let r : Result Fields Reason = Ok w in r) (sym (get_or-set_same (freed m pager).memory.words place (brought (word_at (freed m pager).memory place)) opening_word count))
+        ∙ ap (λ (w : Fields). let r : Result Fields Reason = Ok w in r)
+        (sym (get_or-set_same (frame_freed m pager).memory.words place (brought (word_at (frame_freed m pager).memory place)) opening_word count))
 
-    at : (b : Bool) → (freed m pager).done ≡ b →
-        MoveLeaves (if b then moved_page Bring (freed m pager).memory place (freed m pager).pager else freed m pager).done m place Bring
-        (if b then moved_page Bring (freed m pager).memory place (freed m pager).pager else freed m pager).memory
-    at true done = paged-leaves (fails_next (freed m pager).pager) m (freed m pager).memory (brought_at (freed m pager).memory place) place Bring still word
-    at false failed = subst (λ (b : Bool). MoveLeaves b m place Bring (freed m pager).memory) (sym failed) still
+    at : (b : Bool) → (frame_freed m pager).done ≡ b →
+        MoveLeaves (if b then moved_page Bring (frame_freed m pager).memory place (frame_freed m pager).pager else frame_freed m pager).done m place Bring
+        (if b then moved_page Bring (frame_freed m pager).memory place (frame_freed m pager).pager else frame_freed m pager).memory
+    at true done = paged-leaves (fails_next (frame_freed m pager).pager) m (frame_freed m pager).memory (brought_at (frame_freed m pager).memory place) place Bring still word
+    at false failed = subst (λ (b : Bool). MoveLeaves b m place Bring (frame_freed m pager).memory) (sym failed) still
 allowed-leaves Age m place pager sound below allowed =
     age-word (word_at m place) allowed ∙ ap (λ (w : Fields). let r : Result Fields Reason = Ok w in r) (sym (get_or-set_same m.words place (aged (word_at m place)) opening_word below))
 
@@ -120,8 +118,10 @@ refused-same (Ok word) action m place pager why e = not-refused (allowed_move ac
     step = allowed_move action m place pager
 
     not-refused : (b : Bool) →
-        (let r : Applied = if b then record { answer = Ok tt; memory = step.memory; pager = step.pager } else record { answer = Err Paging; memory = step.memory; pager = step.pager } in r).answer ≡ Err (Refused why) →
-        (let r : Applied = if b then record { answer = Ok tt; memory = step.memory; pager = step.pager } else record { answer = Err Paging; memory = step.memory; pager = step.pager } in r).pager ≡ pager
+        (let r : Applied = if b then record { answer = Ok tt; memory = step.memory; pager = step.pager } else record { answer = Err Paging; memory = step.memory; pager = step.pager } in r).answer
+        ≡ Err (Refused why) →
+        (let r : Applied = if b then record { answer = Ok tt; memory = step.memory; pager = step.pager } else record { answer = Err Paging; memory = step.memory; pager = step.pager } in r).pager
+        ≡ pager
     not-refused true e = absurd (cc)
     not-refused false e = absurd (cc)
 refused-same (Err reason) action m place pager why e = refl
@@ -131,16 +131,17 @@ pub moved-tells : (h : HostState) (guest page : ℕ) (action : Move) → IsHost 
     ApplyTells (move_of h guest page action).answer h guest page action (after_move h guest page action)
 unfolding applied
 moved-tells h guest page action is below inside none =
-    let place : ℕ = start_of h guest + page in
+    let place : ℕ = first_place h guest + page in
     at (move_of h guest page action).answer refl (applied-tells h.memory place action h.own is.memory (place-below h guest page is below inside)) (applied-faults h.memory place action h.own)
   where
-    at : (r : Result Unit ApplyError) → (move_of h guest page action).answer ≡ r → MoveTells r h.memory (start_of h guest + page) action (move_of h guest page action).memory →
+    at : (r : Result Unit ApplyError) → (move_of h guest page action).answer ≡ r → MoveTells r h.memory (first_place h guest + page) action (move_of h guest page action).memory →
         FaultsOf (is_made r) h.memory h.own (move_of h guest page action).pager → ApplyTells r h guest page action (after_move h guest page action)
     at (Ok done) e tells cost = tells
     at (Err (Refused why)) e tells cost = (
       tells.0,
       ap (λ (m : MemoryState). let k : HostState = record h { memory = m; own = (move_of h guest page action).pager } in k) tells.1
-          ∙ ap (λ (p : FailurePlan). let k : HostState = record h { own = p } in k) (refused-same (move_answer (word_at h.memory (start_of h guest + page)) action) action h.memory (start_of h guest + page) h.own why e),
+          ∙ ap (λ (p : FailurePlan). let k : HostState = record h { own = p } in k)
+          (refused-same (move_answer (word_at h.memory (first_place h guest + page)) action) action h.memory (first_place h guest + page) h.own why e),
     )
     at (Err Paging) e tells cost = (
       tells.0,

@@ -11,9 +11,9 @@ use Rattle.std.proofs.lemmas.List.Folds.{sum_by-replicate}
 use Rattle.std.proofs.lemmas.List.Sums.{sum_by-set, sum_by-append, sum_by-cons, get_or-le-sum_by}
 use Rattle.std.proofs.lemmas.Option.{slice_get_within, get_or_from_slice_get, slice_get-get_or}
 use Rattle.essa_state.specs.declared.fields.Fields.{Fields}
-use Rattle.essa_state.specs.StateWord.{is_resident}
+use Rattle.essa_state.specs.StateWord.{is_resident, opening_word}
 use Rattle.host_plain.specs.Numbering.{Numbering, number_at, renumbered, is_number, is_taken, opening_numbers}
-use Rattle.host_plain.specs.MemoryState.{IsNumbering, opening_word}
+use Rattle.host_plain.specs.MemoryState.{IsNumbering}
 
 -- the number of a page's frame, as a list
 times-list : (number : ℕ) (o : Option ℕ) → sum_by (is_number number) (option_to_list o) ≡ is_taken number o
@@ -80,7 +80,13 @@ renumbered_kept true false frames words n place word is below was now room =
       count = length-set n.taken place None ∙ is.count ∙ sym (length-set words place word);
       resident = changed words n.taken place word None is.count below (sym now) is.resident;
       once = λ number.
-          omega (arith, is.once number, sum_by-set (is_taken number) n.taken place None None inside, times-list number (number_at n place), sum_by-append (is_number number) n.spare (option_to_list (number_at n place)));
+          omega (
+            arith,
+            is.once number,
+            sum_by-set (is_taken number) n.taken place None None inside,
+            times-list number (number_at n place),
+            sum_by-append (is_number number) n.spare (option_to_list (number_at n place)),
+          );
     }
 renumbered_kept false true frames words n place word is below was now room =
     let inside : place < length n.taken = omega (arith, below, is.count) in
@@ -123,9 +129,6 @@ twice f xs i j d e other first second one two none =
 same-number : (number : ℕ) → is_number number number ≡ 1
 same-number number = grind arith
 
-next-number : (number : ℕ) → is_number number (number + 1) ≡ 0
-next-number number = grind arith
-
 taken-inside : (taken : List (Option ℕ)) (place number : ℕ) → slice_index_or taken place None ≡ Some number → place < length taken
 taken-inside taken place number there = elim (cases_lt place (length taken)) [
   | inl inside ↦ inside
@@ -151,7 +154,8 @@ are_apart frames words n is = record {
     | inl same ↦ same
     | inr apart ↦
         let two : 2 ≤ sum_by (is_taken number) n.taken =
-        twice (is_taken number) n.taken other place None None apart (taken-inside n.taken other number second) (taken-inside n.taken place number first) (counts number _ second) (counts number _ first) refl in
+        twice (is_taken number) n.taken other place None None apart (taken-inside n.taken other number second) (taken-inside n.taken place number first) (counts number _ second)
+        (counts number _ first) refl in
         absurd (omega (arith, two, is.once number, one-most number frames))
   ];
   free = λ place k number there spare. absurd (omega (arith, is.once number, one-most number frames, taken-one place number there, spare-one k number spare));
@@ -180,10 +184,12 @@ numbers-once number from (suc frames) =
     sum_by-cons (is_number number) from (range_with_len (from + 1) frames) ∙ ap (λ k. is_number number from + k) (numbers-once number (from + 1) frames) ∙ next number from frames
   where
     next : (number from frames : ℕ) →
-        is_number number from + (if nat_lt number (from + 1) then 0 else if nat_lt number (from + 1 + frames) then 1 else 0) ≡ (if nat_lt number from then 0 else if nat_lt number (from + suc frames) then 1 else 0)
+        is_number number from + (if nat_lt number (from + 1) then 0 else if nat_lt number (from + 1 + frames) then 1 else 0)
+        ≡ (if nat_lt number from then 0 else if nat_lt number (from + suc frames) then 1 else 0)
     next number from frames = grind arith
 
-pub opening-numbering : (places frames : ℕ) (words : List Fields) → length words ≡ places → ((k : ℕ) → is_resident (at words k).content ≡ false) → IsNumbering frames words (opening_numbers places frames)
+pub opening-numbering : (places frames : ℕ) (words : List Fields) → length words ≡ places → ((k : ℕ) → is_resident (at words k).content ≡ false)
+    → IsNumbering frames words (opening_numbers places frames)
 opening-numbering places frames words count absent = record {
   count = length-replicate {A = Option ℕ} places None ∙ sym count;
   resident = λ place. none-at places place ∙ sym (absent place);

@@ -5,10 +5,10 @@ use Rattle.std.proofs.lemmas.List.{length-replicate, length-map}
 use Rattle.std.proofs.lemmas.List.FromFn.{length-range_with_len}
 use Rattle.cmm_types.specs.declared.plan.TheConstants.{MAX_FRAMES, MAX_TOTAL_PAGES}
 use Rattle.essa_state.specs.declared.fields.Fields.{Fields}
-use Rattle.essa_state.specs.StateWord.{is_permitted, is_resident}
+use Rattle.essa_state.specs.StateWord.{is_permitted, is_resident, opening_word}
 use Rattle.host_plain.specs.Bodies.{BodiesView, memory_of, opening_bodies}
 use Rattle.host_plain.proofs.Numbers.{opening-numbering}
-use Rattle.host_plain.specs.MemoryState.{IsMemory, IsWholeBody, opening_word, no_body, frameless, resident_of, opening_memory}
+use Rattle.host_plain.specs.MemoryState.{IsMemory, IsWholeBody, no_body, frameless, resident_of, opening_memory}
 
 pub opening_word-at : (n k : ℕ) → slice_index_or (replicate n opening_word) k opening_word ≡ opening_word
 opening_word-at zero k = refl

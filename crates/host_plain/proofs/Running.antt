@@ -2,10 +2,10 @@
 use Rattle.std.specs.Prelude.{◌≡◌, refl, ℕ}
 use Rattle.std.proofs.Common.{sym, subst, ◌∙◌}
 use Rattle.cmm_io.specs.DiskCall.{DiskCall}
-use Rattle.essa_state.specs.PageValueLaws.{MayBecome-refl, MayBecome-trans}
+use Rattle.essa_state.specs.Laws.PageValueLaws.{MayBecome-refl, MayBecome-trans}
 use Rattle.cmm_storage.specs.StorageCall.{StorageCall}
 use Rattle.cmm_storage.specs.Program.{Program, done, take_page, touch_page, order_page, take_change, fetch_page, store_page, put_page, read_block, write_block, Does, block_read}
-use Rattle.cmm_storage.specs.Views.{page_of}
+use Rattle.cmm_storage.specs.Views.{page_called}
 use Rattle.host_plain.specs.HostState.{HostState, IsHost, Leaves, RunLeaves, pages_of, value_of}
 use Rattle.host_plain.proofs.Others.{other_guest}
 
@@ -42,7 +42,7 @@ run-more h m k page is first rest =
     }
 
 module _ {S D : Type 0} (ss : S → StorageCall → S → Type 0) (ds : D → DiskCall → D → Type 0) (host : S → HostState)
-    (leaves : (s : S) (call : StorageCall) (t : S) → ss s call t → Leaves (host s) (page_of call) (host t)) where
+    (leaves : (s : S) (call : StorageCall) (t : S) → ss s call t → Leaves (host s) (page_called call) (host t)) where
   pub run_leaves : {A : Type 0} (p : Program A) (s : S) (d : D) (a : A) (t : S) (e : D) → IsHost (host s) → Does ss ds p s d a t e → RunLeaves (host s) (host t)
   run_leaves (done x) s d a t e is (ea, es, ed) = subst (λ q. RunLeaves (host s) (host q)) (sym es) (run-none (host s) is)
   run_leaves (take_page p k) s d a t e is (r, m, now, rest) = let one = leaves s _ m now in run-more (host s) (host m) (host t) p is one (run_leaves (k r) m d a t e one.sound rest)

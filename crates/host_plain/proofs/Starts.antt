@@ -8,8 +8,9 @@ use Rattle.std.proofs.lemmas.List.Sums.{sum_by_more, sum_by_more_le}
 use Rattle.std.proofs.lemmas.List.{length-replicate}
 use Rattle.cmm_io.specs.FailurePlan.{FailurePlan}
 use Rattle.essa_state.specs.declared.fields.Fields.{Fields}
-use Rattle.host_plain.specs.MemoryState.{MemoryState, IsMemory, opening_memory, opening_word}
-use Rattle.host_plain.specs.HostState.{HostState, AreStarts, IsHost, starts_of, opening}
+use Rattle.host_plain.specs.MemoryState.{MemoryState, IsMemory, opening_memory}
+use Rattle.essa_state.specs.StateWord.{opening_word}
+use Rattle.host_plain.specs.HostState.{HostState, AreStarts, IsHost, starts_of, host_opening}
 use Rattle.host_plain.proofs.Opening.{opening_word-at}
 
 -- one guest more
@@ -48,7 +49,7 @@ none-busy n k busy =
     cc
 
 pub opening-host : (pages : List ℕ) (frames : ℕ) (blocks : List (List ℕ)) (pagers : List FailurePlan) (own : FailurePlan) → IsMemory (opening_memory blocks frames) →
-    0 < length pages → length pagers ≡ length pages → All (λ count. 0 < count) pages → length blocks ≡ sum pages → IsHost (opening pages frames blocks pagers own)
+    0 < length pages → length pagers ≡ length pages → All (λ count. 0 < count) pages → length blocks ≡ sum pages → IsHost (host_opening pages frames blocks pagers own)
 opening-host pages frames blocks pagers own sound some guests each all = record {
   memory = sound;
   starts = rw (length-replicate (length blocks) opening_word, guests, all) (starts-are pages each);
@@ -61,7 +62,7 @@ opening-host pages frames blocks pagers own sound some guests each all = record 
 
 -- a host as it is opened, by its parts
 pub opened : (pages : List ℕ) (frames : ℕ) (blocks : List (List ℕ)) (pagers : List FailurePlan) (own : FailurePlan) (m : MemoryState) (starts : List ℕ) → m ≡ opening_memory blocks frames →
-    starts ≡ starts_of pages → record { memory = m; starts = starts; pagers = pagers; own = own; guest = 0; held = None; touched = false } ≡ opening pages frames blocks pagers own
+    starts ≡ starts_of pages → record { memory = m; starts = starts; pagers = pagers; own = own; guest = 0; held = None; touched = false } ≡ host_opening pages frames blocks pagers own
 opened pages frames blocks pagers own m starts memory there =
     ap (λ (k : MemoryState). let h : HostState = record { memory = k; starts = starts; pagers = pagers; own = own; guest = 0; held = None; touched = false } in h) memory
     ∙ ap (λ (s : List ℕ). let h : HostState = record { memory = opening_memory blocks frames; starts = s; pagers = pagers; own = own; guest = 0; held = None; touched = false } in h) there

@@ -2,7 +2,7 @@
 use Rattle.std.specs.Prelude.{ℕ, List, [], ◌∷◌, ◌++◌, length, map, All, Option, None, IfSome, is_some, if◌then◌else◌, slice_index_or, slice_set}
 use Rattle.std.specs.List.{sum_by}
 use Rattle.std.specs.Option.{option_map, option_to_list}
-use Rattle.cmm_storage.specs.StorageView.{write_at}
+use Rattle.cmm_types.specs.Bytes.{with_bytes}
 use Rattle.essa_state.specs.PageBody.{Body}
 use Rattle.page_arena.specs.FrameView.{RegionView, FrameView, IsOf}
 use Rattle.essa_state.specs.declared.fields.Fields.{Fields}
@@ -21,12 +21,12 @@ abbrev pub without_frame : List ℕ → PageParts
 without_frame block = record { frame = None; block = block }
 
 -- the number of the page's frame
-abbrev pub number_of : PageParts → Option ℕ
-number_of parts = option_map (λ frame. frame.number) parts.frame
+abbrev pub frame_number_of : PageParts → Option ℕ
+frame_number_of parts = option_map (λ frame. frame.number) parts.frame
 
 -- the page with bytes written at an offset of its frame
 abbrev pub written_parts : PageParts → ℕ → List ℕ → PageParts
-written_parts parts off bytes = record parts { frame = option_map (λ (frame : FrameView). let f : FrameView = record frame { bytes = write_at frame.bytes off bytes } in f) parts.frame }
+written_parts parts off bytes = record parts { frame = option_map (λ (frame : FrameView). let f : FrameView = record frame { bytes = with_bytes frame.bytes off bytes } in f) parts.frame }
 
 abbrev pub frames_in : PageParts → ℕ
 frames_in parts = if is_some parts.frame then 1 else 0
@@ -58,7 +58,7 @@ pub record BodiesView : Type 0 where
 abbrev pub bodies_view : List PageParts → List FrameView → ℕ → BodiesView
 bodies_view pages free frames = record {
   bodies = map body_of pages;
-  numbers = record { taken = map number_of pages; spare = map (λ frame. frame.number) free };
+  numbers = record { taken = map frame_number_of pages; spare = map (λ frame. frame.number) free };
   frames = frames;
 }
 

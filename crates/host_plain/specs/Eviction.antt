@@ -7,7 +7,8 @@ use Rattle.essa_state.specs.declared.fields.Fields.{Fields}
 use Rattle.essa_state.specs.Moves.{reclaiming, aged, brought, discarded, preserved}
 use Rattle.essa_state.specs.PageBody.{moved_body}
 use Rattle.host_clock.specs.Victim.{is_candidate, wrapped, victim_of}
-use Rattle.host_plain.specs.MemoryState.{MemoryState, opening_word, word_at, body_at, with_word, with_moved}
+use Rattle.host_plain.specs.MemoryState.{MemoryState, word_at, body_at, with_word, with_moved}
+use Rattle.essa_state.specs.StateWord.{opening_word}
 
 abbrev pub word_in : List Fields → ℕ → Fields
 word_in words place = slice_index_or words place opening_word
@@ -28,12 +29,12 @@ steps_from count hand place = if nat_lt place hand then place + count - hand els
 
 -- how many words the hand passes on its way to the victim: those before it, and all of them where the victim was
 -- referenced, since then each candidate was
-abbrev pub passed : List Fields → ℕ → ℕ → ℕ
-passed words hand place = if (word_in words place).referenced then length words else steps_from (length words) hand place
+abbrev pub words_passed : List Fields → ℕ → ℕ → ℕ
+words_passed words hand place = if (word_in words place).referenced then length words else steps_from (length words) hand place
 
 -- the ages before a victim's move, and the hand after it
 unfoldable pub passed_by : MemoryState → ℕ × ℕ → MemoryState
-passed_by m victim = record m { words = aged_words m.words m.hand (passed m.words m.hand victim.0); hand = victim.1 }
+passed_by m victim = record m { words = aged_words m.words m.hand (words_passed m.words m.hand victim.0); hand = victim.1 }
 
 -- what a step of the host's that may call a pager gives: whether it was done, and the memory and the pager after it
 pub record Paged : Type 0 where
@@ -77,5 +78,5 @@ unfoldable pub evicted : MemoryState → FailurePlan → Paged
 evicted m pager = evicted_at m (victim_of m.words m.hand) pager
 
 -- a frame is free afterwards, unless a put failed
-unfoldable pub freed : MemoryState → FailurePlan → Paged
-freed m pager = if nat_lt 0 m.free then record { done = true; memory = m; pager = pager } else evicted m pager
+unfoldable pub frame_freed : MemoryState → FailurePlan → Paged
+frame_freed m pager = if nat_lt 0 m.free then record { done = true; memory = m; pager = pager } else evicted m pager

@@ -10,7 +10,7 @@ use Rattle.host_clock.specs.Victim.{victim_of}
 use Rattle.host_plain.specs.declared.moves.ApplyError.{ApplyError}
 use Rattle.host_plain.specs.declared.moves.ApplyError.TheVariants.{Refused, Paging}
 use Rattle.host_plain.specs.MemoryState.{MemoryState, word_at}
-use Rattle.host_plain.specs.Eviction.{Paged, moved_page, evicted_at, freed}
+use Rattle.host_plain.specs.Eviction.{Paged, moved_page, evicted_at, frame_freed}
 
 -- the answer, and the memory and the pager after it
 pub record Applied : Type 0 where
@@ -18,8 +18,8 @@ pub record Applied : Type 0 where
   pub memory : MemoryState
   pub pager : FailurePlan
 
-abbrev pub answered : Paged → Applied
-answered step =
+abbrev pub move_answered : Paged → Applied
+move_answered step =
     if step.done then record { answer = Ok tt; memory = step.memory; pager = step.pager }
     else record { answer = Err Paging; memory = step.memory; pager = step.pager }
 
@@ -30,12 +30,12 @@ brought_after step place = if step.done then moved_page Bring step.memory place 
 abbrev pub allowed_move : Move → MemoryState → ℕ → FailurePlan → Paged
 allowed_move Discard m place pager = moved_page Discard m place pager
 allowed_move Preserve m place pager = moved_page Preserve m place pager
-allowed_move Bring m place pager = brought_after (freed m pager) place
+allowed_move Bring m place pager = brought_after (frame_freed m pager) place
 allowed_move Age m place pager = moved_page Age m place pager
 
 -- a refused move changes nothing
 abbrev pub applied_as : Result Fields Reason → Move → MemoryState → ℕ → FailurePlan → Applied
-applied_as (Ok moved) action m place pager = answered (allowed_move action m place pager)
+applied_as (Ok moved) action m place pager = move_answered (allowed_move action m place pager)
 applied_as (Err why) action m place pager = record { answer = Err (Refused why); memory = m; pager = pager }
 
 -- a move that is asked for on the page at a place
@@ -49,14 +49,14 @@ pub record Reclaimed : Type 0 where
   pub memory : MemoryState
   pub pager : FailurePlan
 
-abbrev pub counted : ℕ → Paged → Reclaimed
-counted count step =
+abbrev pub reclaim_counted : ℕ → Paged → Reclaimed
+reclaim_counted count step =
     if step.done then record { count = count + 1; paging = false; memory = step.memory; pager = step.pager }
     else record { count = count; paging = true; memory = step.memory; pager = step.pager }
 
 abbrev pub more_at : Reclaimed → Option (ℕ × ℕ) → Reclaimed
 more_at r None = r
-more_at r (Some victim) = counted r.count (evicted_at r.memory (Some victim) r.pager)
+more_at r (Some victim) = reclaim_counted r.count (evicted_at r.memory (Some victim) r.pager)
 
 -- one victim more, if there is one and no put failed
 unfoldable pub one_more : Reclaimed → Reclaimed

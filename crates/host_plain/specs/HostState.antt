@@ -15,8 +15,8 @@ use Rattle.essa_state.specs.PageValue.{PageValue, MayBecome}
 use Rattle.essa_state.specs.PageBody.{frame_bytes}
 use Rattle.cmm_storage.specs.StorageCall.{StorageCall, Take, Touch, Give, TakeChange, Fetch, Store, Put}
 use Rattle.cmm_storage.specs.StorageView.{StorageView, Follows}
-use Rattle.cmm_storage.specs.Views.{page_of}
-use Rattle.host_plain.specs.MemoryState.{MemoryState, IsMemory, word_at, body_at, value_at, with_word, stored_at, old_of, opening_memory}
+use Rattle.cmm_storage.specs.Views.{page_called}
+use Rattle.host_plain.specs.MemoryState.{MemoryState, IsMemory, word_at, body_at, memory_value_at, with_word, stored_at, old_of, opening_memory}
 use Rattle.host_plain.specs.Numbering.{number_at}
 use Rattle.host_plain.specs.HostMoves.{Applied, Reclaimed, applied, reclaimed}
 use Rattle.host_plain.specs.Touches.{Touched, touched_page}
@@ -35,12 +35,12 @@ pub record HostState : Type 0 where
   pub held : Option ℕ
   pub touched : Bool
 
-abbrev pub start_of : HostState → ℕ → ℕ
-start_of h guest = slice_index_or h.starts guest 0
+abbrev pub first_place : HostState → ℕ → ℕ
+first_place h guest = slice_index_or h.starts guest 0
 
 -- how many pages a guest has
 abbrev pub pages_of : HostState → ℕ → ℕ
-pages_of h guest = start_of h (guest + 1) - start_of h guest
+pages_of h guest = first_place h (guest + 1) - first_place h guest
 
 abbrev pub no_pager : FailurePlan
 no_pager = record { calls = 0; planned = []; faults = 0 }
@@ -50,15 +50,15 @@ abbrev pub pager_of : HostState → ℕ → FailurePlan
 pager_of h guest = slice_index_or h.pagers guest no_pager
 
 -- where the served guest's page stands
-abbrev pub place_of : HostState → ℕ → ℕ
-place_of h page = start_of h h.guest + page
+abbrev pub list_place : HostState → ℕ → ℕ
+list_place h page = first_place h h.guest + page
 
 abbrev pub held_word : Fields → Bool → Fields
 held_word word busy = record word { busy = busy }
 
 -- what a guest's page is for it
 abbrev pub value_of : HostState → ℕ → ℕ → PageValue
-value_of h guest page = value_at h.memory (start_of h guest + page)
+value_of h guest page = memory_value_at h.memory (first_place h guest + page)
 
 -- each page of each guest is what the host may have made of it
 abbrev pub HostMayMake : HostState → HostState → Type 0
@@ -66,14 +66,14 @@ HostMayMake h k = (guest page : ℕ) → MayBecome (value_of h guest page) (valu
 
 -- the page's word is busy while it is held
 abbrev pub taken : HostState → ℕ → HostState
-taken h page = record h { memory = with_word h.memory (place_of h page) (held_word (word_at h.memory (place_of h page)) true); held = Some page; touched = false }
+taken h page = record h { memory = with_word h.memory (list_place h page) (held_word (word_at h.memory (list_place h page)) true); held = Some page; touched = false }
 
 abbrev pub given_back : HostState → ℕ → HostState
-given_back h page = record h { memory = with_word h.memory (place_of h page) (held_word (word_at h.memory (place_of h page)) false); held = None }
+given_back h page = record h { memory = with_word h.memory (list_place h page) (held_word (word_at h.memory (list_place h page)) false); held = None }
 
 -- a touch, by the served guest's pager
 unfoldable pub touch_of : HostState → ℕ → Touched
-touch_of h page = touched_page h.memory (place_of h page) (pager_of h h.guest)
+touch_of h page = touched_page h.memory (list_place h page) (pager_of h h.guest)
 
 abbrev pub touch_after : HostState → ℕ → HostState
 touch_after h page = record h {
@@ -83,16 +83,16 @@ touch_after h page = record h {
 }
 
 abbrev pub with_host_word : HostState → ℕ → Fields → HostState
-with_host_word h page word = record h { memory = with_word h.memory (place_of h page) word }
+with_host_word h page word = record h { memory = with_word h.memory (list_place h page) word }
 
 abbrev pub host_word : HostState → ℕ → Fields
-host_word h page = word_at h.memory (place_of h page)
+host_word h page = word_at h.memory (list_place h page)
 
 abbrev pub host_bytes : HostState → ℕ → List ℕ
-host_bytes h page = frame_bytes (body_at h.memory (place_of h page))
+host_bytes h page = frame_bytes (body_at h.memory (list_place h page))
 
-abbrev pub stored : HostState → ℕ → ℕ → List ℕ → HostState
-stored h page off bytes = record h { memory = stored_at h.memory (place_of h page) off bytes }
+abbrev pub page_stored : HostState → ℕ → ℕ → List ℕ → HostState
+page_stored h page off bytes = record h { memory = stored_at h.memory (list_place h page) off bytes }
 
 -- each answer and each state after a call is a function of what was before
 abbrev pub HostStep : HostState → StorageCall → HostState → Type 0
@@ -101,7 +101,7 @@ HostStep h (Touch page r) k = (r ≡ (touch_of h page).answer) × (k ≡ touch_a
 HostStep h (Give page code old) k = (old ≡ old_of (host_word h page) code) × (k ≡ with_host_word h page (after_order (host_word h page) code))
 HostStep h (TakeChange page changed) k = (changed ≡ (host_word h page).changed) × (k ≡ with_host_word h page (record (host_word h page) { changed = false }))
 HostStep h (Fetch page off bytes) k = (bytes ≡ take (length bytes) (drop off (host_bytes h page))) × (k ≡ h)
-HostStep h (Store page off bytes) k = k ≡ stored h page off bytes
+HostStep h (Store page off bytes) k = k ≡ page_stored h page off bytes
 HostStep h (Put page) k = k ≡ given_back h page
 
 -- what a call on a page of the served guest leaves alone: where pages stand and whom they are of, the host's own
@@ -113,7 +113,7 @@ pub record SparesOthers (h : HostState) (page : ℕ) (k : HostState) : Type 0 wh
   pub count : length k.pagers ≡ length h.pagers
   pub pagers : (guest : ℕ) → guest ≢ h.guest → pager_of k guest ≡ pager_of h guest
   pub frames : k.memory.frames ≡ h.memory.frames
-  pub values : (place : ℕ) → place ≢ place_of h page → MayBecome (value_at h.memory place) (value_at k.memory place)
+  pub values : (place : ℕ) → place ≢ list_place h page → MayBecome (memory_value_at h.memory place) (memory_value_at k.memory place)
 
 -- what each call asks of the host before it
 abbrev pub CanCall : HostState → StorageCall → Type 0
@@ -134,7 +134,7 @@ held_content h (Some page) = (host_word h page).content
 abbrev pub host_view : HostState → StorageView
 host_view h = record {
   pages = pages_of h h.guest;
-  values = λ page. value_at h.memory (place_of h page);
+  values = λ page. memory_value_at h.memory (list_place h page);
   held = h.held;
   touched = h.touched;
   faults = faults_of (pager_of h h.guest);
@@ -150,18 +150,18 @@ served h guest = record h { guest = guest }
 
 -- the words of a guest's pages
 abbrev pub words_of : HostState → ℕ → List Fields
-words_of h guest = take (pages_of h guest) (drop (start_of h guest) h.memory.words)
+words_of h guest = take (pages_of h guest) (drop (first_place h guest) h.memory.words)
 
 -- the host's own move on a page of a guest, by its own pager
 abbrev pub move_of : HostState → ℕ → ℕ → Move → Applied
-move_of h guest page action = applied h.memory (start_of h guest + page) action h.own
+move_of h guest page action = applied h.memory (first_place h guest + page) action h.own
 
 abbrev pub after_move : HostState → ℕ → ℕ → Move → HostState
 after_move h guest page action = record h { memory = (move_of h guest page action).memory; own = (move_of h guest page action).pager }
 
 -- the word of a guest's page
 abbrev pub word_of : HostState → ℕ → ℕ → Fields
-word_of h guest page = word_at h.memory (start_of h guest + page)
+word_of h guest page = word_at h.memory (first_place h guest + page)
 
 -- what an answer tells: the page's word is that of the table; or the table refuses the move, and nothing changed; or
 -- a call of the host's own pager failed, and the page is as it was
@@ -169,7 +169,7 @@ abbrev pub ApplyTells : Result Unit ApplyError → HostState → ℕ → ℕ →
 ApplyTells (Ok done) h guest page action k = move_answer (word_of h guest page) action ≡ Ok (word_of k guest page)
 ApplyTells (Err (Refused why)) h guest page action k = (move_answer (word_of h guest page) action ≡ Err why) × (k ≡ h)
 ApplyTells (Err Paging) h guest page action k =
-    (is_ok (move_answer (word_of h guest page) action) ≡ true) × SamePage h.memory (start_of h guest + page) k.memory
+    (is_ok (move_answer (word_of h guest page) action) ≡ true) × SamePage h.memory (first_place h guest + page) k.memory
     × HasRisen (faults_of h.own) (faults_of k.own)
 
 -- the reclaiming of so many victims, by the host's own pager
@@ -184,8 +184,8 @@ abbrev pub starts_of : List ℕ → List ℕ
 starts_of pages = map (λ guest. sum (take guest pages)) (range_with_len 0 (length pages + 1))
 
 -- guests with so many pages each and these pagers, one block a page, and so many frames; the first guest is served
-abbrev pub opening : List ℕ → ℕ → List (List ℕ) → List FailurePlan → FailurePlan → HostState
-opening pages frames blocks pagers own = record {
+abbrev pub host_opening : List ℕ → ℕ → List (List ℕ) → List FailurePlan → FailurePlan → HostState
+host_opening pages frames blocks pagers own = record {
   memory = opening_memory blocks frames;
   starts = starts_of pages;
   pagers = pagers;
@@ -198,7 +198,7 @@ opening pages frames blocks pagers own = record {
 -- where the held page stands
 abbrev pub held_place : HostState → Option ℕ → Option ℕ
 held_place h None = None
-held_place h (Some page) = Some (place_of h page)
+held_place h (Some page) = Some (list_place h page)
 
 -- each guest's pages stand behind those of the guests before it
 pub record AreStarts (starts : List ℕ) (guests pages : ℕ) : Type 0 where
@@ -218,7 +218,7 @@ pub record IsHost (h : HostState) : Type 0 where
 
 -- the number of the frame of a guest's page
 abbrev pub frame_of : HostState → ℕ → ℕ → Option ℕ
-frame_of h guest page = number_at h.memory.numbers (start_of h guest + page)
+frame_of h guest page = number_at h.memory.numbers (first_place h guest + page)
 
 -- each resident page, and no other, has a frame of the host's; no other page of any guest has the same one, and it
 -- isn't free
@@ -240,7 +240,7 @@ pub record Leaves (h : HostState) (page : ℕ) (k : HostState) : Type 0 where
 pub record Serves (h : HostState) (call : StorageCall) (k : HostState) : Type 0 where
   pub step : HostStep h call k
   pub follows : Follows (host_view h) call (host_view k)
-  pub leaves : Leaves h (page_of call) k
+  pub leaves : Leaves h (page_called call) k
 
 -- what a whole run on the served guest's pages leaves: a sound host, and the pages of every other guest as the host may
 -- have made them

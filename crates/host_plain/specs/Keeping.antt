@@ -12,7 +12,7 @@ use Rattle.host_clock.specs.Victim.{is_candidate}
 use Rattle.host_plain.specs.declared.moves.ApplyError.{ApplyError}
 use Rattle.host_plain.specs.declared.moves.ApplyError.TheVariants.{Refused, Paging}
 use Rattle.host_plain.specs.HostMoves.{Reclaimed}
-use Rattle.host_plain.specs.MemoryState.{MemoryState, IsMemory, word_at, body_at, value_at, with_use}
+use Rattle.host_plain.specs.MemoryState.{MemoryState, IsMemory, word_at, body_at, memory_value_at, with_use}
 
 -- the memory is sound; it has the pages and the frames that it had, and each page is busy exactly where it was. Each
 -- page's value may become another only as a guest allows it
@@ -21,7 +21,7 @@ pub record HostKeeps (m k : MemoryState) : Type 0 where
   pub count : length k.words ≡ length m.words
   pub frames : k.frames ≡ m.frames
   pub busy : (place : ℕ) → (word_at k place).busy ≡ (word_at m place).busy
-  pub values : (place : ℕ) → MayBecome (value_at m place) (value_at k place)
+  pub values : (place : ℕ) → MayBecome (memory_value_at m place) (memory_value_at k place)
 
 -- the same of a touch, but for the value of the page that is touched
 pub record TouchKeeps (m : MemoryState) (page : ℕ) (k : MemoryState) : Type 0 where
@@ -29,7 +29,7 @@ pub record TouchKeeps (m : MemoryState) (page : ℕ) (k : MemoryState) : Type 0 
   pub count : length k.words ≡ length m.words
   pub frames : k.frames ≡ m.frames
   pub busy : (place : ℕ) → (word_at k place).busy ≡ (word_at m place).busy
-  pub others : (place : ℕ) → place ≢ page → MayBecome (value_at m place) (value_at k place)
+  pub others : (place : ℕ) → place ≢ page → MayBecome (memory_value_at m place) (memory_value_at k place)
 
 -- the page at a place is as it was
 abbrev pub SamePage : MemoryState → ℕ → MemoryState → Type 0
@@ -40,7 +40,7 @@ SamePage m place k = (word_at k place ≡ word_at m place) × (body_at k place �
 abbrev pub TouchLeaves : Result Unit Trap → MemoryState → ℕ → MemoryState → Type 0
 TouchLeaves (Ok done) m page k =
     (is_discarded (word_at m page) ≡ false) × (is_resident (word_at k page).content ≡ true)
-    × (value_at k page ≡ record (value_at m page) { contents = touched_contents true (value_at m page).contents })
+    × (memory_value_at k page ≡ record (memory_value_at m page) { contents = touched_contents true (memory_value_at m page).contents })
     × (is_resident (word_at m page).content ≡ true → k ≡ with_use m page)
 TouchLeaves (Err Discarded) m page k = (is_discarded (word_at m page) ≡ true) × (k ≡ m)
 TouchLeaves (Err NoPage) m page k =

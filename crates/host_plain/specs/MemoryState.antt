@@ -1,17 +1,15 @@
 -- The pages of all guests as the host keeps them, with its free frames and the hand of its clock.
-use Rattle.std.specs.Prelude.{◌≡◌, ℕ, ◌+◌, ◌-◌, ◌≤◌, ◌<◌, List, [], ◌∷◌, length, true, false, Some, None, is_some, nat_lt, if◌then◌else◌, slice_index_or, slice_set, map, replicate}
+use Rattle.std.specs.Prelude.{◌≡◌, ℕ, ◌+◌, ◌-◌, ◌≤◌, ◌<◌, List, [], ◌∷◌, length, true, Some, None, is_some, nat_lt, if◌then◌else◌, slice_index_or, slice_set, map, replicate}
 use Rattle.std.specs.List.{sum_by}
 use Rattle.cmm_types.specs.declared.page.TheConstants.{PAGE}
 use Rattle.cmm_types.specs.declared.plan.TheConstants.{MAX_FRAMES, MAX_TOTAL_PAGES}
-use Rattle.cmm_types.specs.declared.page.Usage.TheVariants.{U}
-use Rattle.cmm_types.specs.declared.page.Content.TheVariants.{Zero}
 use Rattle.essa_state.specs.declared.fields.Fields.{Fields}
 use Rattle.essa_state.specs.declared.orders.Old.{Old}
 use Rattle.essa_state.specs.declared.orders.Order.{Order}
 use Rattle.essa_state.specs.Orders.{order_done}
-use Rattle.essa_state.specs.StateWord.{is_resident, is_permitted}
+use Rattle.essa_state.specs.StateWord.{opening_word, is_resident, is_permitted}
 use Rattle.essa_state.specs.PageValue.{PageValue}
-use Rattle.cmm_storage.specs.StorageView.{write_at}
+use Rattle.cmm_types.specs.Bytes.{with_bytes}
 use Rattle.essa_state.specs.PageBody.{Body, FitsWord, actual, frame_bytes}
 use Rattle.host_plain.specs.Numbering.{Numbering, number_at, renumbered, is_taken, is_number, opening_numbers}
 
@@ -25,10 +23,6 @@ pub record MemoryState : Type 0 where
   pub numbers : Numbering
   pub hand : ℕ
 
--- unused, without contents, and never discarded
-abbrev pub opening_word : Fields
-opening_word = record { usage = U; content = Zero; referenced = false; changed = false; busy = false; count = 0 }
-
 abbrev pub no_body : Body
 no_body = record { frame = None; block = [] }
 
@@ -39,34 +33,34 @@ abbrev pub body_at : MemoryState → ℕ → Body
 body_at m place = slice_index_or m.bodies place no_body
 
 -- what the page at this place is for its guest
-abbrev pub value_at : MemoryState → ℕ → PageValue
-value_at m place = actual (word_at m place) (body_at m place)
+abbrev pub memory_value_at : MemoryState → ℕ → PageValue
+memory_value_at m place = actual (word_at m place) (body_at m place)
 
 abbrev pub with_word : MemoryState → ℕ → Fields → MemoryState
 with_word m place word = record m { words = slice_set m.words place word }
 
-abbrev pub with_page : MemoryState → ℕ → Fields → Body → MemoryState
-with_page m place word body = record m { words = slice_set m.words place word; bodies = slice_set m.bodies place body }
+abbrev pub memory_with_page : MemoryState → ℕ → Fields → Body → MemoryState
+memory_with_page m place word body = record m { words = slice_set m.words place word; bodies = slice_set m.bodies place body }
 
 abbrev pub frames_of : Fields → ℕ
 frames_of word = if is_resident word.content then 1 else 0
 
 -- the page at a place with another word and body, whose frame was free before or is free now
 abbrev pub with_moved : MemoryState → ℕ → Fields → Body → MemoryState
-with_moved m place word body = record (with_page m place word body) {
+with_moved m place word body = record (memory_with_page m place word body) {
   free = m.free + frames_of (word_at m place) - frames_of word;
   numbers = renumbered m.numbers place (is_some (body_at m place).frame) (is_some body.frame);
 }
 
 -- a body with these bytes in its frame
-abbrev pub with_bytes : Body → List ℕ → Body
-with_bytes body bytes = record body { frame = Some bytes }
+abbrev pub body_with_bytes : Body → List ℕ → Body
+body_with_bytes body bytes = record body { frame = Some bytes }
 
 -- the page at a place with bytes written at an offset of its frame, and its change bit set
 abbrev pub stored_at : MemoryState → ℕ → ℕ → List ℕ → MemoryState
 stored_at m place off bytes =
-    with_page m place (record (word_at m place) { changed = true })
-    (with_bytes (body_at m place) (write_at (frame_bytes (body_at m place)) off bytes))
+    memory_with_page m place (record (word_at m place) { changed = true })
+    (body_with_bytes (body_at m place) (with_bytes (frame_bytes (body_at m place)) off bytes))
 
 -- the page at a place was used
 abbrev pub with_use : MemoryState → ℕ → MemoryState

@@ -6,9 +6,9 @@ ghost use Rattle.cmm_types.specs.declared.page.TheConstants.{PAGE};
 ghost use Rattle.cmm_types.specs.declared.plan.TheConstants.{MAX_FRAMES};
 ghost use Rattle.cmm_types.specs.declared.page.Move.TheVariants.{Discard, Preserve, Bring};
 ghost use Rattle.cmm_io.specs.FailurePlan.{fails_next, after_next};
-ghost use Rattle.cmm_storage.specs.StorageView.{write_at, zeros};
+ghost use Rattle.cmm_types.specs.Bytes.{with_bytes, zero_page};
 ghost use Rattle.essa_state.specs.PageBody.{frame_bytes, moved_body};
-ghost use Rattle.host_plain.specs.MemoryState.{IsWholeBody, with_bytes};
+ghost use Rattle.host_plain.specs.MemoryState.{IsWholeBody, body_with_bytes};
 ghost use Rattle.page_arena.specs.FrameView.{IsOf};
 ghost use Rattle.host_plain.specs.Numbering.{is_number, is_taken};
 ghost use Rattle.host_plain.specs.Bodies.{body_of, frames_back, body_in, with_body, without_frame, frames_in, framed_of, opening_bodies};
@@ -195,7 +195,7 @@ impl Bodies {
         requires place { place < length self.old.bodies }
         requires absent { is_some (body_in self.old place).frame ≡ false }
         requires frame { 0 < length self.old.numbers.spare }
-        ensures { self.new ≡ with_body self.old place (with_bytes (body_in self.old place) zeros) }
+        ensures { self.new ≡ with_body self.old place (body_with_bytes (body_in self.old place) zero_page) }
     {
         let frame = self.free.pop().unwrap();
         let page = &mut self.pages[place];
@@ -216,7 +216,7 @@ impl Bodies {
         requires place { place < length self.old.bodies }
         requires resident { is_some (body_in self.old place).frame ≡ true }
         requires within { off + length from.now ≤ PAGE }
-        ensures { self.new ≡ record self.old { bodies = slice_set self.old.bodies place (with_bytes (body_in self.old place) (write_at (frame_bytes (body_in self.old place)) off from.now)) } }
+        ensures { self.new ≡ record self.old { bodies = slice_set self.old.bodies place (body_with_bytes (body_in self.old place) (with_bytes (frame_bytes (body_in self.old place)) off from.now)) } }
     {
         let page = &mut self.pages[place];
         page.store(off, from);

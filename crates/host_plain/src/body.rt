@@ -2,7 +2,7 @@
 ghost use Rattle.std.specs.Prelude.{◌≡◌, ◌+◌, ◌≤◌, length, take, drop, true, Some, None, is_some, is_err, IfOk, IfErr};
 ghost use Rattle.cmm_types.specs.declared.page.TheConstants.{PAGE};
 ghost use Rattle.cmm_io.specs.FailurePlan.{fails_next, after_next};
-ghost use Rattle.cmm_storage.specs.StorageView.{zeros};
+ghost use Rattle.cmm_types.specs.Bytes.{zero_page};
 ghost use Rattle.essa_state.specs.PageBody.{frame_bytes};
 ghost use Rattle.host_plain.specs.MemoryState.{IsWholeBody};
 ghost use Rattle.host_plain.specs.Bodies.{body_of, written_parts};
@@ -88,7 +88,7 @@ impl PageBody {
 
     /// Takes a frame, and fills it with zeros.
     pub fn fill(&mut self, mut frame: Frame)
-        ensures { self.new ≡ record self.old { frame = Some (record frame { bytes = zeros }) } }
+        ensures { self.new ≡ record self.old { frame = Some (record frame { bytes = zero_page }) } }
     {
         frame.bytes_mut().fill(0);
         self.frame = Some(frame);

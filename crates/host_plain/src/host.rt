@@ -8,7 +8,7 @@ ghost use Rattle.page_arena.specs.FrameView.{IsOf, missing};
 ghost use Rattle.host_plain.specs.MemoryState.{resident_of};
 ghost use Rattle.host_plain.specs.Keeping.{faults_of};
 ghost use Rattle.host_plain.specs.Served.{host_of};
-ghost use Rattle.host_plain.specs.HostState.{HostState, IsHost, Serves, HaveOwnFrames, host_word, place_of, start_of, pages_of, pager_of, words_of, served, HostMayMake, ApplyTells, opening, starts_of, after_move, move_of, after_reclaim, reclaim_of};
+ghost use Rattle.host_plain.specs.HostState.{HostState, IsHost, Serves, HaveOwnFrames, host_word, list_place, first_place, pages_of, pager_of, words_of, served, HostMayMake, ApplyTells, host_opening, starts_of, after_move, move_of, after_reclaim, reclaim_of};
 
 use crate::memory::Memory;
 use crate::moves::{ApplyError, Reclaim};
@@ -86,7 +86,7 @@ impl Host {
         requires most { sum pages.now ≤ MAX_TOTAL_PAGES }
         requires some_frames { 0 < frames }
         requires most_frames { frames ≤ MAX_FRAMES }
-        ensures host { IfOk result (λ host. host ≡ opening pages.now frames blocks.items guest_pagers.items own) }
+        ensures host { IfOk result (λ host. host ≡ host_opening pages.now frames blocks.items guest_pagers.items own) }
         ensures sound { IfOk result (λ host. IsHost host) }
     {
         let starts = starts_of(alloc, pages)?;
@@ -181,9 +181,9 @@ impl Host {
     }
 
     // The place of the served guest's page.
-    fn place_of(&self, page: u32) -> usize
+    fn list_place(&self, page: u32) -> usize
         requires { page < pages_of self.now self.now.guest }
-        ensures place { result ≡ place_of self.now page }
+        ensures place { result ≡ list_place self.now page }
         ensures within { result < length self.now.memory.words }
     {
         self.starts[self.guest] + page as usize
@@ -206,7 +206,7 @@ impl Host {
         requires none_held { self.old.held ≡ None }
         ensures { Serves self.old (Take page (Ok tt)) self.new }
     {
-        let place = self.place_of(page);
+        let place = self.list_place(page);
         let fields = self.memory.fields(place);
         self.memory.set_fields(
             place,
@@ -223,7 +223,7 @@ impl Host {
         requires held { self.old.held ≡ Some page }
         ensures { Serves self.old (Touch page result) self.new }
     {
-        let place = self.place_of(page);
+        let place = self.list_place(page);
         let touched = self.memory.touch(place, &mut self.pagers[self.guest]);
         self.touched |= touched.is_ok();
         touched
@@ -233,7 +233,7 @@ impl Host {
         requires held { self.old.held ≡ Some page }
         ensures { Serves self.old (Give page code result) self.new }
     {
-        let place = self.place_of(page);
+        let place = self.list_place(page);
         self.memory.order(place, code)
     }
 
@@ -241,7 +241,7 @@ impl Host {
         requires held { self.old.held ≡ Some page }
         ensures { Serves self.old (TakeChange page result) self.new }
     {
-        let place = self.place_of(page);
+        let place = self.list_place(page);
         let fields = self.memory.fields(place);
         self.memory.set_fields(
             place,
@@ -260,7 +260,7 @@ impl Host {
         ensures { Serves self.now (Fetch page off into.new) self.now }
     {
         let memory = &self.memory;
-        memory.fetch(self.place_of(page), off, into);
+        memory.fetch(self.list_place(page), off, into);
     }
 
     pub(crate) fn store(&mut self, page: u32, off: usize, from: &[u8])
@@ -269,7 +269,7 @@ impl Host {
         requires within { off + length from.now ≤ PAGE }
         ensures { Serves self.old (Store page off from.now) self.new }
     {
-        let place = self.place_of(page);
+        let place = self.list_place(page);
         self.memory.store(place, off, from);
     }
 
@@ -277,7 +277,7 @@ impl Host {
         requires held { self.old.held ≡ Some page }
         ensures { Serves self.old (Put page) self.new }
     {
-        let place = self.place_of(page);
+        let place = self.list_place(page);
         let fields = self.memory.fields(place);
         self.memory.set_fields(
             place,

@@ -9,8 +9,8 @@ ghost use Rattle.essa_state.specs.Orders.{after_order};
 ghost use Rattle.essa_state.specs.PageBody.{frame_bytes};
 ghost use Rattle.page_arena.specs.FrameView.{IsOf, missing};
 ghost use Rattle.host_plain.specs.MemoryState.{IsMemory, IsPage, word_at, body_at, with_word, with_use, stored_at, old_of, resident_of, opening_memory};
-ghost use Rattle.host_plain.specs.Eviction.{passed, passed_by, discarded_at, moved_page, reclaimed_page, evicted_at, freed};
-ghost use Rattle.host_plain.specs.Touches.{touched_page, zeroed_at, filled, filled_after};
+ghost use Rattle.host_plain.specs.Eviction.{words_passed, passed_by, discarded_at, moved_page, reclaimed_page, evicted_at, frame_freed};
+ghost use Rattle.host_plain.specs.Touches.{touched_page, zeroed_at, frame_filled, filled_after};
 ghost use Rattle.host_plain.specs.Keeping.{HostKeeps};
 ghost use Rattle.host_plain.specs.HostMoves.{allowed_move, applied, reclaimed};
 
@@ -46,10 +46,10 @@ impl Model for Memory {
 }
 
 // How many words the hand passes on its way to the victim.
-fn passed(words: &Words, hand: usize, place: usize) -> usize
+fn words_passed(words: &Words, hand: usize, place: usize) -> usize
     requires hand { hand < length words.now }
     requires place { place < length words.now }
-    ensures passed { result ≡ passed words.now hand place }
+    ensures passed { result ≡ words_passed words.now hand place }
     ensures most { result ≤ length words.now }
 {
     if words.get(place).referenced() {
@@ -251,7 +251,7 @@ impl Memory {
         requires hand { hand < length self.old.words }
         ensures { self.new ≡ passed_by self.old (place, hand) }
     {
-        let count = passed(&self.words, self.hand, place);
+        let count = words_passed(&self.words, self.hand, place);
         self.words.age(self.hand, count);
         self.hand = hand;
     }
@@ -290,11 +290,11 @@ impl Memory {
     }
 
     // Sees to it that a frame is free. It fails where the pager does, and where no page could be taken.
-    #[tactic(auto, unfolding(crate::specs::Eviction::freed, crate::specs::Eviction::evicted))]
+    #[tactic(auto, unfolding(crate::specs::Eviction::frame_freed, crate::specs::Eviction::evicted))]
     fn free_frame(&mut self, pager: &mut MemPager) -> Result<(), Failed>
-        ensures done { is_ok result ≡ (freed self.old pager.old).done }
-        ensures memory { self.new ≡ (freed self.old pager.old).memory }
-        ensures pager { pager.new ≡ (freed self.old pager.old).pager }
+        ensures done { is_ok result ≡ (frame_freed self.old pager.old).done }
+        ensures memory { self.new ≡ (frame_freed self.old pager.old).memory }
+        ensures pager { pager.new ≡ (frame_freed self.old pager.old).pager }
         ensures frame { is_ok result ≡ true → 0 < self.new.free }
         ensures count { length self.new.words ≡ length self.old.words }
         ensures absent { (place : ℕ) → is_resident (word_at self.old place).content ≡ false → word_at self.new place ≡ word_at self.old place }
@@ -313,9 +313,9 @@ impl Memory {
         requires place { place < length self.old.words }
         requires absent { is_resident (word_at self.old place).content ≡ false }
         requires frame { 0 < self.old.free }
-        ensures done { is_ok result ≡ (filled self.old place pager.old).done }
-        ensures memory { self.new ≡ (filled self.old place pager.old).memory }
-        ensures pager { pager.new ≡ (filled self.old place pager.old).pager }
+        ensures done { is_ok result ≡ (frame_filled self.old place pager.old).done }
+        ensures memory { self.new ≡ (frame_filled self.old place pager.old).memory }
+        ensures pager { pager.new ≡ (frame_filled self.old place pager.old).pager }
     {
         if self.words.get(place).content() == Content::Preserved {
             return self.bring(place, pager);
@@ -328,9 +328,9 @@ impl Memory {
     fn make_resident(&mut self, place: usize, pager: &mut MemPager) -> Result<(), Failed>
         requires place { place < length self.old.words }
         requires absent { is_resident (word_at self.old place).content ≡ false }
-        ensures done { is_ok result ≡ (filled_after (freed self.old pager.old) place).done }
-        ensures memory { self.new ≡ (filled_after (freed self.old pager.old) place).memory }
-        ensures pager { pager.new ≡ (filled_after (freed self.old pager.old) place).pager }
+        ensures done { is_ok result ≡ (filled_after (frame_freed self.old pager.old) place).done }
+        ensures memory { self.new ≡ (filled_after (frame_freed self.old pager.old) place).memory }
+        ensures pager { pager.new ≡ (filled_after (frame_freed self.old pager.old) place).pager }
         ensures resident { is_ok result ≡ true → is_resident (word_at self.new place).content ≡ true }
         ensures count { length self.new.words ≡ length self.old.words }
     {

@@ -3,7 +3,7 @@ ghost use Rattle.std.specs.Prelude.{◌≡◌};
 ghost use Rattle.cmm_storage.specs.StorageView.{Follows};
 ghost use Rattle.host_plain.specs.HostState.{HostStep, Leaves, host_view};
 ghost use Rattle.host_plain.specs.Served.{host_of};
-ghost use Rattle.cmm_storage.specs.Views.{page_of};
+ghost use Rattle.cmm_storage.specs.Views.{page_called};
 
 use crate::host::Host;
 use cmm_storage::{Busy, Storage, Trap};
@@ -18,7 +18,7 @@ pub struct HostView<'a> {
 impl<'a> Storage for HostView<'a> {
     ghost view = { λ v. host_view (host_of v) };
 
-    ghost step = { λ v call w. HostStep (host_of v) call (host_of w) × Follows (host_view (host_of v)) call (host_view (host_of w)) × Leaves (host_of v) (page_of call) (host_of w) × (w.host.ghost_name ≡ v.host.ghost_name) };
+    ghost step = { λ v call w. HostStep (host_of v) call (host_of w) × Follows (host_view (host_of v)) call (host_view (host_of w)) × Leaves (host_of v) (page_called call) (host_of w) × (w.host.ghost_name ≡ v.host.ghost_name) };
 
     ghost meets = { λ v call w s. s.1 };
 

@@ -1,9 +1,9 @@
 -- From what a claim's step tells to what the claim answers.
 use Rattle.std.proofs.Common.{◌≡◌, ℕ, List, [], ◌∷◌, sym, refl, ap, ◌∙◌, subst, true, false, Option, Some, None}
 use Rattle.essa_state.specs.declared.fields.Fields.{Fields}
-use Rattle.essa_state.specs.StateWord.{number_of, IsWord}
+use Rattle.essa_state.specs.StateWord.{number_of}
 use Rattle.essa_state.specs.Layout.{fields_at}
-use Rattle.essa_state.specs.LayoutLaws.{fields_at-number_of}
+use Rattle.essa_state.specs.Laws.LayoutLaws.{fields_at-number_of}
 use Rattle.essa_state.specs.PageValue.{PageValue}
 use Rattle.essa_state.specs.PageBody.{Body, FitsWord, actual}
 use Rattle.atomic_table.specs.Table.{Me, rest}
@@ -80,9 +80,6 @@ looked_by page raw m m' word written l =
       counted = subst (λ q. HasCounted m.0.role page q) same l.counted;
       me = l.me ∙ ap (λ q. (looked_view m.0 page q, m.1)) same;
     }
-
-pub is_word_of : {D : Type 0} (page raw : ℕ) (m m' : Me (Option D) SeatView) → Looks page m raw m' → IsWord raw
-is_word_of page raw m m' l = record { fields = l.word; permitted = l.permitted; written = l.written }
 
 -- the values that a guest's role has
 pub record HasValues (role : Role) : Type 0 where

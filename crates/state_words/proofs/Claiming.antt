@@ -5,14 +5,14 @@ use mathlib.Core.Option.{none, some, some-injective}
 use lib.ListN.{get_elem?}
 use lib.Seq.{set-get_or}
 use Rattle.essa_state.specs.StateWord.{number_of}
-use Rattle.essa_state.specs.PageValue.{PageValue, MayBecome}
-use Rattle.essa_state.specs.PageValueLaws.{MayBecome-refl}
+use Rattle.essa_state.specs.PageValue.{PageValue, MayBecome, opening_value}
+use Rattle.essa_state.specs.Laws.PageValueLaws.{MayBecome-refl}
 use Rattle.essa_state.specs.PageBody.{Body, actual}
 use Rattle.atomic_table.specs.Table.{State, Me, Act, keeps, takes, step, stepped, Valid, carried_after, Allows}
 use Rattle.atomic_table.specs.Seated.{TableId}
 use Rattle.atomic_table.proofs.Lists.{set_else}
-use Rattle.state_words.specs.SeatView.{Hold, found_value, Role, Guest, Host, Spent, SeatView, first_value, value_at, is_spent, busied}
-use Rattle.state_words.specs.WordsRule.{IsHome, HoldFits, ViewFits, Holds, PageFits, WordsRule}
+use Rattle.state_words.specs.SeatView.{Hold, found_value, Role, Guest, Host, Spent, SeatView, value_at, is_spent, busied}
+use Rattle.state_words.specs.WordsRule.{IsHome, HoldFits, ViewFits, SeatHolds, PageFits, WordsRule}
 use Rattle.state_words.specs.Steps.{role_with, IsExpected, claimed_view, tried_view}
 use Rattle.state_words.specs.Plays.{Got, claims}
 use Rattle.state_words.proofs.Busy.{or-free, or-busied}
@@ -40,7 +40,7 @@ module _ {D : Type 0} (body : D → Body) (house_of : D → TableId) (house : Ta
       × claims body house_of (step slots page 64 0 none) me (slice_index s.words page) (w, carried_after me.1 a)
 
   -- somebody holds the page
-  claim_busy : (slots id page : ℕ) (me : M) (s : St) (r : Rule s) → get_elem? s.views id ≡ some me.0 → (j : ℕ) → Holds s.views j page → Claim slots id page me s
+  claim_busy : (slots id page : ℕ) (me : M) (s : St) (r : Rule s) → get_elem? s.views id ≡ some me.0 → (j : ℕ) → SeatHolds s.views j page → Claim slots id page me s
   claim_busy slots id page me s r at j h =
       let f = ((r.seats j h.view h.there).holds h.hold h.held).1 in
       let word = h.hold.word in
@@ -124,11 +124,11 @@ module _ {D : Type 0} (body : D → Body) (house_of : D → TableId) (house : Ta
       let value = actual h.word (body h.there) in
       let within : page < length vs = let a = ap length is.1 in let b = r.valued in omega arith in
       let w : SeatView = claimed_view me.0 page h.word (body h.there) in
-      let here : value_at (set vs page value) page ≡ value = get_or-set_same vs page value first_value within in
+      let here : value_at (set vs page value) page ≡ value = get_or-set_same vs page value opening_value within in
       let now : role_with me.0.role page value ≡ Guest (set vs page value) = ap (λ q. role_with q page value) role in
       claim_free slots id page me s r inside at idle used nobody h (set vs page value)
       (length-set vs page value ∙ ap length is.1)
-      (λ i o. get_or-set_other vs page i value first_value o ∙ ap (λ q. value_at q i) is.1)
+      (λ i o. get_or-set_other vs page i value opening_value o ∙ ap (λ q. value_at q i) is.1)
       (subst (λ q. IsExpected q page value) (sym role) (subst (λ q. MayBecome (value_at q page) value) (sym is.1) h.may))
       (subst (λ q. MayBecome q value) (sym here) (MayBecome-refl value))
       (λ j u ws o there e. absurd (o (((r.seats j u there).guests ws e).0 ∙ sym is.0)))

@@ -10,13 +10,13 @@ use native.Mathlib.Decide.{ℕ_discrete}
 use mathlib.Core.Option.{some, some-injective}
 use lib.ListN.{get_elem?}
 use Rattle.essa_state.specs.StateWord.{number_of, IsWord}
-use Rattle.essa_state.specs.LayoutLaws.{fields_at-number}
+use Rattle.essa_state.specs.Laws.LayoutLaws.{fields_at-number}
 use Rattle.essa_state.specs.PageBody.{Body}
 use Rattle.atomic_table.specs.Table.{State, Final, Seen}
 use Rattle.atomic_table.specs.Seated.{TableId}
 use Rattle.state_words.specs.SeatView.{SeatView, busied, value_at}
 use Rattle.state_words.specs.WordsRule.{PageFits, WordsRule}
-use Rattle.state_words.specs.Closing.{is_busy_number, HasMoved}
+use Rattle.state_words.specs.Closing.{is_busy_number, HasComeBack}
 use Rattle.state_words.proofs.Opening.{read, within}
 use Rattle.state_words.proofs.Looking.{word_of}
 
@@ -62,11 +62,11 @@ module _ (old new : List Bool) (page len : ℕ) (now : new ≡ slice_set old pag
       (λ (e : k ≡ page). ap (λ q. get_or (set old page false) q false) e ∙ get_or-set_same old page false false (omega arith))
       (λ (n : k ≢ page). get_or-set_other old page k false false n ∙ f k (omega arith))
 
-module _ {D : Type 0} (house_of : D → TableId) (house : TableId) (before after : List D) (busy page : ℕ) (g : HasMoved house_of house before after busy page) where
-  pub moved_none : (after' : List D) (busy' : ℕ) → after' ≡ after → busy' ≡ busy + 1 → HasMoved house_of house before after' busy' (page + 1)
+module _ {D : Type 0} (house_of : D → TableId) (house : TableId) (before after : List D) (busy page : ℕ) (g : HasComeBack house_of house before after busy page) where
+  pub moved_none : (after' : List D) (busy' : ℕ) → after' ≡ after → busy' ≡ busy + 1 → HasComeBack house_of house before after' busy' (page + 1)
   moved_none after' busy' e f = record { got = g.got; items = e ∙ g.items; housed = g.housed; count = let c = g.count in omega arith }
 
-  pub moved_one : (after' : List D) (busy' : ℕ) (b : D) → after' ≡ after ++ b ∷ [] → busy' ≡ busy → house_of b ≡ house → HasMoved house_of house before after' busy' (page + 1)
+  pub moved_one : (after' : List D) (busy' : ℕ) (b : D) → after' ≡ after ++ b ∷ [] → busy' ≡ busy → house_of b ≡ house → HasComeBack house_of house before after' busy' (page + 1)
   moved_one after' busy' b e f h = record {
     got = g.got ++ b ∷ [];
     items = e ∙ ap (λ q. q ++ b ∷ []) g.items ∙ append_assoc before g.got (b ∷ []);

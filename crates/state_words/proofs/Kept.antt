@@ -11,7 +11,7 @@ use Rattle.atomic_table.specs.Table.{State}
 use Rattle.atomic_table.specs.Seated.{TableId}
 use Rattle.atomic_table.proofs.Lists.{at_set, set_else}
 use Rattle.state_words.specs.SeatView.{Hold, found_value, HoldsPage, Guest, SeatView, value_at, is_spent}
-use Rattle.state_words.specs.WordsRule.{IsHome, HoldFits, ViewFits, Holds, PageFits, WordsRule}
+use Rattle.state_words.specs.WordsRule.{IsHome, HoldFits, ViewFits, SeatHolds, PageFits, WordsRule}
 
 abbrev pick : {P : Type 0} → Dec P → Option ℕ → Option ℕ → Option ℕ
 pick (yes _) a b = a
@@ -72,7 +72,8 @@ module _ {D : Type 0} (body : D → Body) (house_of : D → TableId) (house : Ta
     may = subst (λ q. MayBecome q (actual h.word (body h.there))) (sym (c.values_same i other)) h.may;
   }
 
-  holds_stays : (views : List SeatView) (seat i : ℕ) (v w : SeatView) → get_elem? views seat ≡ some v → (HoldsPage v i → HoldsPage w i) → (j : ℕ) → Holds views j i → Holds (set views seat w) j i
+  holds_stays : (views : List SeatView) (seat i : ℕ) (v w : SeatView) → get_elem? views seat ≡ some v → (HoldsPage v i → HoldsPage w i) → (j : ℕ) → SeatHolds views j i
+      → SeatHolds (set views seat w) j i
   holds_stays views seat i v w at keeps j h = dite (ℕ_discrete j seat)
       (λ e. let is : v ≡ h.view = some-injective v h.view (sym at ∙ ap (get_elem? views) (sym e) ∙ h.there) in
       let had : HoldsPage v i = record { hold = h.hold; held = ap (λ q. q.held) is ∙ h.held; of_page = h.of_page } in
@@ -84,7 +85,7 @@ module _ {D : Type 0} (body : D → Body) (house_of : D → TableId) (house : Ta
       → get_elem? s.views seat ≡ some v → (HoldsPage v i → HoldsPage w i) → i ≢ page → (o : Option ℕ)
       → PageFits body house_of house s (value_at values i) i o → PageFits body house_of house s' (value_at values' i) i o
   page_stays s s' values values' page seat i v w c viewed at keeps other None h = home_stays s.words s'.words s.homes s'.homes values values' page i c other h
-  page_stays s s' values values' page seat i v w c viewed at keeps other (Some j) h = subst (λ q. Holds q j i) (sym viewed) (holds_stays s.views seat i v w at keeps j h)
+  page_stays s s' values values' page seat i v w c viewed at keeps other (Some j) h = subst (λ q. SeatHolds q j i) (sym viewed) (holds_stays s.views seat i v w at keeps j h)
 
   hold_stays : (words words' : List ℕ) (homes homes' : List (maybe.Option (Option D))) (values values' : List PageValue) (page : ℕ) (h : Hold)
       → Change words words' homes homes' values values' page → h.page ≢ page
@@ -167,7 +168,7 @@ module _ {D : Type 0} (body : D → Body) (house_of : D → TableId) (house : Ta
       page_again : (i : ℕ) (o : Option ℕ) → PageFits body house_of house s (value_at r.values i) i o → PageFits body house_of house s' (value_at r.values i) i o
       page_again i None h = subst (λ ws. IsHome body house_of house ws s'.homes i (value_at r.values i)) (sym ew)
           (subst (λ hs. IsHome body house_of house s.words hs i (value_at r.values i)) (sym eh) h)
-      page_again i (Some j) h = subst (λ q. Holds q j i) (sym viewed) (holds_stays s.views seat i v w at (has_again i) j h)
+      page_again i (Some j) h = subst (λ q. SeatHolds q j i) (sym viewed) (holds_stays s.views seat i v w at (has_again i) j h)
 
       mine_again : (f : ViewFits house s.words r.values r.guest r.by seat v) → ViewFits house s.words r.values r.guest r.by seat w
       mine_again f = record {

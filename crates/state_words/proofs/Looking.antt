@@ -13,7 +13,7 @@ use Rattle.atomic_table.specs.Table.{State, Me, keeps, step, stepped, Allows, Sp
 use Rattle.atomic_table.specs.Seated.{TableId}
 use Rattle.atomic_table.proofs.Lists.{at_set, set_else, set_again, at_longer, at_snoc}
 use Rattle.state_words.specs.SeatView.{found_value, Role, Guest, Host, Spent, SeatView, value_at, is_spent, busied, host_first, no_view}
-use Rattle.state_words.specs.WordsRule.{ViewFits, Holds, PageFits, WordsRule}
+use Rattle.state_words.specs.WordsRule.{ViewFits, SeatHolds, PageFits, WordsRule}
 use Rattle.state_words.specs.Steps.{HasCounted, looked_view}
 use Rattle.state_words.specs.Plays.{looks}
 use Rattle.state_words.proofs.Kept.{same_step}
@@ -66,7 +66,7 @@ module _ {D : Type 0} (body : D → Body) (house_of : D → TableId) (house : Ta
       counts Host e word h = subst (λ q. HasCounted q page word) (sym e) tt
       counts Spent e word h = subst (λ q. HasCounted q page word) (sym e) tt
 
-  holds_longer : (views : List SeatView) (x : SeatView) (j page : ℕ) → Holds views j page → Holds (views ++ x ∷ []) j page
+  holds_longer : (views : List SeatView) (x : SeatView) (j page : ℕ) → SeatHolds views j page → SeatHolds (views ++ x ∷ []) j page
   holds_longer views x j page h = record { view = h.view; hold = h.hold; there = at_longer views (x ∷ []) j h.view h.there; held = h.held; of_page = h.of_page }
 
   host_fits : (words : List ℕ) (values : List PageValue) (guest : ℕ) (by : ℕ → Option ℕ) (seat : ℕ) (v : SeatView) → v.house ≡ house → ViewFits house words values guest by seat (host_first v.house)

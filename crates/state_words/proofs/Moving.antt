@@ -6,10 +6,10 @@ use Rattle.cmm_types.specs.declared.page.Refused.{Refused}
 use Rattle.essa_state.specs.declared.fields.Fields.{Fields}
 use Rattle.essa_state.specs.Moves.{move_answer}
 use Rattle.essa_state.specs.PageValue.{MayBecome}
-use Rattle.essa_state.specs.PageValueLaws.{MayBecome-refl, move-may_become}
+use Rattle.essa_state.specs.Laws.PageValueLaws.{MayBecome-refl, move-may_become}
 use Rattle.essa_state.specs.PageBody.{Body, actual, moved_body}
 use Rattle.state_words.specs.Steps.{IsAllowedOn, ok_or, word_after, body_after}
-use Rattle.state_words.specs.StepLaws.{moves-allowed}
+use Rattle.state_words.specs.Laws.StepLaws.{moves-allowed}
 
 is-ok_or : (word : Fields) (r : Result Fields Refused) → is_ok r ≡ true → r ≡ Ok (ok_or word r)
 is-ok_or word (Ok moved) e = refl

@@ -3,13 +3,14 @@ use Rattle.std.proofs.Common.{◌≡◌, ℕ, ◌<◌, List, [], ◌∷◌, map,
 use mathlib.Core.Option.{some, some-injective, some-ne-none}
 use lib.ListN.{get_elem?, length-map, length-replicate, get_or-replicate}
 use Rattle.std.specs.Prelude.{All}
-use Rattle.essa_state.specs.PageValue.{MayBecome}
-use Rattle.essa_state.specs.PageValueLaws.{MayBecome-refl}
+use Rattle.essa_state.specs.PageValue.{MayBecome, opening_value}
+use Rattle.essa_state.specs.Laws.PageValueLaws.{MayBecome-refl}
 use Rattle.essa_state.specs.PageBody.{Body, FitsWord, actual}
 use Rattle.atomic_table.specs.Table.{opening}
 use Rattle.atomic_table.specs.Seated.{TableId}
 use Rattle.atomic_table.proofs.Lists.{at_map}
-use Rattle.state_words.specs.SeatView.{Guest, SeatView, first_word, first_value, guest_first}
+use Rattle.state_words.specs.SeatView.{Guest, SeatView, guest_first}
+use Rattle.essa_state.specs.StateWord.{opening_word}
 use Rattle.state_words.specs.WordsRule.{ViewFits, WordsRule, FitsStart}
 
 there_is : {A : Type 0} (l : List A) (i : ℕ) → i < length l → (a : A) × (get_elem? l i ≡ some a)
@@ -18,11 +19,11 @@ there_is (x ∷ xs) zero h = (x, refl)
 there_is (x ∷ xs) (suc i) h = there_is xs i (omega arith)
 
 module _ {D : Type 0} (body : D → Body) (house_of : D → TableId) (house : TableId) where
-  only_view : (n seat : ℕ) (words : List ℕ) (v : SeatView) → get_elem? (guest_first n house ∷ []) seat ≡ some v → ViewFits house words (replicate n first_value) 0 (λ i. None) seat v
+  only_view : (n seat : ℕ) (words : List ℕ) (v : SeatView) → get_elem? (guest_first n house ∷ []) seat ≡ some v → ViewFits house words (replicate n opening_value) 0 (λ i. None) seat v
   only_view n zero words v e =
       let is : guest_first n house ≡ v = some-injective (guest_first n house) v e in
-      subst (λ q. ViewFits house words (replicate n first_value) 0 (λ i. None) zero q) is record {
-        guests = λ vs f. (refl, let same : Guest (replicate n first_value) ≡ Guest vs = f in cc);
+      subst (λ q. ViewFits house words (replicate n opening_value) 0 (λ i. None) zero q) is record {
+        guests = λ vs f. (refl, let same : Guest (replicate n opening_value) ≡ Guest vs = f in cc);
         housed = λ f. refl;
         holds = λ h f. absurd (let bad : None ≡ Some h = f in cc);
         own = λ h vs f g. absurd (let bad : None ≡ Some h = f in cc);
@@ -33,17 +34,17 @@ module _ {D : Type 0} (body : D → Body) (house_of : D → TableId) (house : Ta
       → WordsRule body house_of house (opening (replicate n 9) (map Some bodies) (guest_first n house))
   starts n bodies count fit = record {
     guest = 0;
-    values = replicate n first_value;
+    values = replicate n opening_value;
     by = λ i. None;
     whole = length-map (map Some bodies) (λ (x : Option D). some x) ∙ length-map bodies (λ (x : D). Some x) ∙ count ∙ sym (length-replicate n 9);
-    valued = length-replicate n first_value ∙ sym (length-replicate n 9);
+    valued = length-replicate n opening_value ∙ sym (length-replicate n 9);
     guest_there = (guest_first n house, refl, refl);
     pages = λ i l.
         let inside : i < n = subst (λ q. i < q) (length-replicate n 9) l in
         let b = there_is bodies i (subst (λ q. i < q) (sym count) inside) in
         let f = fit i b.0 b.1 in
         record {
-          word = first_word;
+          word = opening_word;
           there = b.0;
           written = get_or-replicate n i 9 0 inside;
           permitted = refl;
@@ -51,7 +52,7 @@ module _ {D : Type 0} (body : D → Body) (house_of : D → TableId) (house : Ta
           home = at_map some (map Some bodies) i (Some b.0) (at_map Some bodies i b.0 b.1);
           fits = f.0;
           housed = f.1;
-          may = subst (λ q. MayBecome q (actual first_word (body b.0))) (sym (get_or-replicate n i first_value first_value inside)) (MayBecome-refl first_value);
+          may = subst (λ q. MayBecome q (actual opening_word (body b.0))) (sym (get_or-replicate n i opening_value opening_value inside)) (MayBecome-refl opening_value);
         };
     seats = λ seat v e. only_view n seat (replicate n 9) v e;
   }
@@ -78,6 +79,6 @@ module _ {D : Type 0} (body : D → Body) (house_of : D → TableId) where
       (subst (λ q. WordsRule body house_of (house_of like) (opening (replicate n 9) q (guest_first n (house_of like)))) (sym kept)
       (starts body house_of (house_of like) n bodies count (λ i b e.
       let fit = all i b (within bodies i b e) in (
-        subst (λ q. FitsWord first_word (body q)) (read bodies i b b e) fit.0,
+        subst (λ q. FitsWord opening_word (body q)) (read bodies i b b e) fit.0,
         ap house_of (sym (read bodies i b b e)) ∙ fit.1 ∙ sym (same_house bodies house like any first all),
       ))))

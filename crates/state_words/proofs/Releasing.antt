@@ -5,16 +5,16 @@ use lib.ListN.{get_elem?}
 use Rattle.cmm_types.specs.declared.page.Move.{Move}
 use Rattle.essa_state.specs.declared.fields.Fields.{Fields}
 use Rattle.essa_state.specs.StateWord.{is_permitted, number_of}
-use Rattle.essa_state.specs.PageValue.{PageValue, MayBecome}
-use Rattle.essa_state.specs.PageValueLaws.{MayBecome-refl, MayBecome-trans}
+use Rattle.essa_state.specs.PageValue.{PageValue, MayBecome, opening_value}
+use Rattle.essa_state.specs.Laws.PageValueLaws.{MayBecome-refl, MayBecome-trans}
 use Rattle.essa_state.specs.PageBody.{Body, FitsWord, actual}
 use Rattle.atomic_table.specs.Table.{State, Me, Act, gives, step, stepped, Valid, carried_after, Allows}
 use Rattle.atomic_table.specs.Seated.{TableId}
 use Rattle.atomic_table.proofs.Lists.{set_else, set_here}
-use Rattle.state_words.specs.SeatView.{Hold, found_value, Guest, Host, SeatStep, Left, Moved, SeatView, first_value, value_at, is_spent}
+use Rattle.state_words.specs.SeatView.{Hold, found_value, Guest, Host, SeatStep, Left, Moved, SeatView, value_at, is_spent}
 use Rattle.state_words.specs.WordsRule.{IsHome, ViewFits, WordsRule}
 use Rattle.state_words.specs.Accesses.{Leads}
-use Rattle.state_words.specs.AccessLaws.{Leads-busy, Leads-fits}
+use Rattle.state_words.specs.Laws.AccessLaws.{Leads-busy, Leads-fits}
 use Rattle.state_words.specs.Steps.{role_with, released_view, IsAllowedOn, IsMovedBody, word_after, moved_value}
 use Rattle.state_words.specs.Plays.{Releases, leaves, moves}
 use Rattle.state_words.proofs.Kept.{put, Change, set_there, page_step}
@@ -98,11 +98,11 @@ module _ {D : Type 0} (body : D → Body) (house_of : D → TableId) (house : Ta
       let fits = Leads-fits h.word h.body word (body b) hf.fits leads in
       let value = actual word (body b) in
       let within : page < length vs = let a = ap length is.1 in let b = r.valued in let l = subst (λ q. q < length s.words) of_page hf.within in omega arith in
-      let here : value_at (set vs page value) page ≡ value = get_or-set_same vs page value first_value within in
+      let here : value_at (set vs page value) page ≡ value = get_or-set_same vs page value opening_value within in
       let now : role_with v.role page value ≡ Guest (set vs page value) = ap (λ q. role_with q page value) role in
       release_any id page v h word b note s r at held of_page (ap is_spent role) permitted free fits housed (set vs page value)
       (length-set vs page value ∙ ap length is.1)
-      (λ i o. get_or-set_other vs page i value first_value o ∙ ap (λ q. value_at q i) is.1)
+      (λ i o. get_or-set_other vs page i value opening_value o ∙ ap (λ q. value_at q i) is.1)
       (subst (λ q. MayBecome q value) (sym here) (MayBecome-refl value))
       (λ j u ws o there e. absurd (o (((r.seats j u there).guests ws e).0 ∙ sym is.0)))
       (released_view v page value note, ap (get_elem? (set s.views id (released_view v page value note))) (sym is.0) ∙ set_there s.views id v (released_view v page value note) at, now)

@@ -2,13 +2,13 @@
 use Rattle.std.proofs.Common.{◌≡◌, ℕ, ◌<◌, List, length, sym, ap, ◌∙◌, true, false, Option, Some, None, slice_index}
 use mathlib.Core.Option.{some}
 use lib.ListN.{get_elem?}
-use Rattle.essa_state.specs.LayoutLaws.{fields_at-number}
+use Rattle.essa_state.specs.Laws.LayoutLaws.{fields_at-number}
 use Rattle.essa_state.specs.PageValue.{PageValue}
 use Rattle.essa_state.specs.PageBody.{Body}
 use Rattle.atomic_table.specs.Table.{State}
 use Rattle.atomic_table.specs.Seated.{TableId}
 use Rattle.state_words.specs.SeatView.{Guest, SeatView, value_at, busied}
-use Rattle.state_words.specs.WordsRule.{Holds, IsHeld, PageFits, WordsRule}
+use Rattle.state_words.specs.WordsRule.{SeatHolds, IsHeld, PageFits, WordsRule}
 use Rattle.state_words.specs.Closing.{is_busy_number}
 
 module _ {D : Type 0} (body : D → Body) (house_of : D → TableId) (house : TableId) where
@@ -27,7 +27,7 @@ module _ {D : Type 0} (body : D → Body) (house_of : D → TableId) (house : Ta
   same_seat : (i j : ℕ) → Some i ≡ Some j → i ≡ j
   same_seat i j e = cc
 
-  pub one_holder : (s : State (Option D) SeatView) (page i j : ℕ) → WordsRule body house_of house s → Holds s.views i page → Holds s.views j page → i ≡ j
+  pub one_holder : (s : State (Option D) SeatView) (page i j : ℕ) → WordsRule body house_of house s → SeatHolds s.views i page → SeatHolds s.views j page → i ≡ j
   one_holder s page i j r h k =
       let by_i : r.by page ≡ Some i = ap r.by (sym h.of_page) ∙ ((r.seats i h.view h.there).holds h.hold h.held).0 in
       let by_j : r.by page ≡ Some j = ap r.by (sym k.of_page) ∙ ((r.seats j k.view k.there).holds k.hold k.held).0 in

@@ -3,7 +3,8 @@ use Rattle.std.specs.Prelude.{◌≡◌, ℕ, ◌+◌, ◌≤◌, List, length, 
 use Rattle.cmm_types.specs.declared.page.TheConstants.{PAGE}
 use Rattle.cmm_types.specs.declared.page.Content.{Content}
 use Rattle.cmm_types.specs.declared.page.Content.TheVariants.{Resident, Preserved, Zero}
-use Rattle.cmm_storage.specs.StorageView.{zeros, write_at, can_store}
+use Rattle.cmm_storage.specs.StorageView.{can_store}
+use Rattle.cmm_types.specs.Bytes.{with_bytes, zero_page}
 use Rattle.essa_state.specs.declared.fields.Fields.{Fields}
 use Rattle.essa_state.specs.declared.orders.Order.{Order}
 use Rattle.essa_state.specs.StateWord.{is_unused, is_resident, is_discarded}
@@ -22,7 +23,7 @@ touched_word w = record w { content = Resident; referenced = true }
 abbrev pub touched_body : Content → Body → Body
 touched_body Resident body = body
 touched_body Preserved body = record body { frame = Some body.block }
-touched_body Zero body = record body { frame = Some zeros }
+touched_body Zero body = record body { frame = Some zero_page }
 
 -- a resident page that may be written, and bytes that lie within it
 pub record CanStore (w : Fields) (off : ℕ) (bytes : List ℕ) : Type 0 where
@@ -34,7 +35,7 @@ abbrev pub stored_word : Fields → Fields
 stored_word w = record w { changed = true }
 
 abbrev pub stored_body : Body → ℕ → List ℕ → Body
-stored_body body off bytes = record body { frame = Some (write_at (frame_bytes body) off bytes) }
+stored_body body off bytes = record body { frame = Some (with_bytes (frame_bytes body) off bytes) }
 
 abbrev pub change_taken : Fields → Fields
 change_taken w = record w { changed = false }

@@ -23,7 +23,7 @@ pub record IsLast {D : Type 0} (body : D → Body) (house_of : D → TableId) (w
   pub counted : count_by is_busy_number state.words ≡ busy
 
 -- the list got a body of this house for each page but the busy ones
-pub record HasMoved {D : Type 0} (house_of : D → TableId) (house : TableId) (before after : List D) (busy pages : ℕ) : Type 0 where
+pub record HasComeBack {D : Type 0} (house_of : D → TableId) (house : TableId) (before after : List D) (busy pages : ℕ) : Type 0 where
   pub got : List D
   pub items : after ≡ before ++ got
   pub housed : All (λ b. house_of b ≡ house) got

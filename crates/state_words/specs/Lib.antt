@@ -1,9 +1,8 @@
 pub mod SeatView
 pub mod Accesses
-pub mod AccessLaws
 pub mod WordsRule
 pub mod Steps
-pub mod StepLaws
 pub mod Plays
 pub mod Slots
 pub mod Closing
+pub mod Laws

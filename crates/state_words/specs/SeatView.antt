@@ -2,10 +2,8 @@
 use Rattle.std.specs.Prelude.{◌≡◌, ℕ, ◌<◌, List, [], ◌∷◌, ◌++◌, length, replicate, slice_index_or, Bool, true, false, Option, Some, None}
 use Rattle.std.specs.Option.{ForSome}
 use Rattle.cmm_types.specs.declared.page.Move.{Move}
-use Rattle.cmm_types.specs.declared.page.Usage.TheVariants.{U}
-use Rattle.cmm_types.specs.declared.page.Content.TheVariants.{Zero}
 use Rattle.essa_state.specs.declared.fields.Fields.{Fields}
-use Rattle.essa_state.specs.PageValue.{PageValue, Blank}
+use Rattle.essa_state.specs.PageValue.{PageValue, opening_value}
 use Rattle.essa_state.specs.PageBody.{Body, actual}
 use Rattle.atomic_table.specs.Seated.{TableId}
 
@@ -58,15 +56,8 @@ words_at id house = record { id = id; pages = id.words; house = house }
 abbrev pub seated_at : TableId → SeatView → Seated
 seated_at id v = record { words = words_at id v.house; view = v }
 
--- the word and the value of every page at the start
-abbrev pub first_word : Fields
-first_word = record { usage = U; content = Zero; referenced = false; changed = false; busy = false; count = 0 }
-
-abbrev pub first_value : PageValue
-first_value = record { usage = U; changed = false; contents = Blank; count = 0 }
-
 abbrev pub value_at : List PageValue → ℕ → PageValue
-value_at values page = slice_index_or values page first_value
+value_at values page = slice_index_or values page opening_value
 
 -- what the guest's seat knows of the pages' values
 abbrev pub guest_values : Role → List PageValue
@@ -111,7 +102,7 @@ abbrev pub noted : SeatView → SeatStep → List SeatStep
 noted v s = v.steps ++ s ∷ []
 
 abbrev pub guest_first : ℕ → TableId → SeatView
-guest_first pages house = record { role = Guest (replicate pages first_value); held = None; house = house; steps = [] }
+guest_first pages house = record { role = Guest (replicate pages opening_value); held = None; house = house; steps = [] }
 
 abbrev pub host_first : TableId → SeatView
 host_first house = record { role = Host; held = None; house = house; steps = [] }

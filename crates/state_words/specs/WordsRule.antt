@@ -4,12 +4,12 @@ use mathlib.Core.Option.{some}
 use mathlib.Core.Option as maybe
 use lib.ListN.{get_elem?}
 use Rattle.essa_state.specs.declared.fields.Fields.{Fields}
-use Rattle.essa_state.specs.StateWord.{is_permitted, number_of}
+use Rattle.essa_state.specs.StateWord.{is_permitted, number_of, opening_word}
 use Rattle.essa_state.specs.PageValue.{PageValue, MayBecome}
 use Rattle.essa_state.specs.PageBody.{Body, FitsWord, actual}
 use Rattle.atomic_table.specs.Table.{State}
 use Rattle.atomic_table.specs.Seated.{TableId}
-use Rattle.state_words.specs.SeatView.{Hold, found_value, Guest, SeatView, value_at, is_spent, busied, first_word}
+use Rattle.state_words.specs.SeatView.{Hold, found_value, Guest, SeatView, value_at, is_spent, busied}
 
 -- a free page's word, and its body, which is at home, is of the house and fits the word. The guest's value of the page
 -- may have become what they are
@@ -43,7 +43,7 @@ pub record ViewFits (house : TableId) (words : List ℕ) (values : List PageValu
   pub own : (h : Hold) (vs : List PageValue) → v.held ≡ Some h → v.role ≡ Guest vs → value_at values h.page ≡ found_value h
 
 -- the seat holds the page
-pub record Holds (views : List SeatView) (seat page : ℕ) : Type 0 where
+pub record SeatHolds (views : List SeatView) (seat page : ℕ) : Type 0 where
   pub view : SeatView
   pub hold : Hold
   pub there : get_elem? views seat ≡ some view
@@ -52,13 +52,13 @@ pub record Holds (views : List SeatView) (seat page : ℕ) : Type 0 where
 
 -- some seat holds the page
 abbrev pub IsHeld : List SeatView → ℕ → Type 0
-IsHeld views page = (seat : ℕ) × Holds views seat page
+IsHeld views page = (seat : ℕ) × SeatHolds views seat page
 
 module _ {D : Type 0} (body : D → Body) (house_of : D → TableId) where
   -- a page is free and its body at home, or some seat holds it
   abbrev pub PageFits : (house : TableId) (s : State (Option D) SeatView) (value : PageValue) (page : ℕ) → Option ℕ → Type 0
   PageFits house s value page None = IsHome body house_of house s.words s.homes page value
-  PageFits house s value page (Some seat) = Holds s.views seat page
+  PageFits house s value page (Some seat) = SeatHolds s.views seat page
 
 module _ {D : Type 0} (body : D → Body) (house_of : D → TableId) where
   -- one seat, number `guest`, is the guest's and knows the values; each page is free, or held by the one seat that
@@ -75,4 +75,4 @@ module _ {D : Type 0} (body : D → Body) (house_of : D → TableId) where
 
 -- the body of an unused page without contents, of this house
 abbrev pub FitsStart : {D : Type 0} (body : D → Body) (house_of : D → TableId) → TableId → D → Type 0
-FitsStart body house_of house there = FitsWord first_word (body there) × (house_of there ≡ house)
+FitsStart body house_of house there = FitsWord opening_word (body there) × (house_of there ≡ house)

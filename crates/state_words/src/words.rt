@@ -1,8 +1,8 @@
 ghost use Rattle.std.specs.Prelude.{◌≡◌, ◌<◌, ◌^◌, ◌+◌, ◌≤◌, length, None, IfOk, IfErr, All, vec_len, vec_capacity};
 ghost use Rattle.atomic_table.specs.Seated.{TableId};
-ghost use Rattle.essa_state.specs.StateWord.{IsWord};
-ghost use Rattle.state_words.specs.SeatView.{guest_first, host_first, first_word, words_at, IsGuestSeat, IsHostSeat};
-ghost use Rattle.state_words.specs.Closing.{is_busy_number, IsLast, HasMoved};
+ghost use Rattle.essa_state.specs.StateWord.{IsWord, opening_word};
+ghost use Rattle.state_words.specs.SeatView.{guest_first, host_first, words_at, IsGuestSeat, IsHostSeat};
+ghost use Rattle.state_words.specs.Closing.{is_busy_number, IsLast, HasComeBack};
 ghost use Rattle.state_words.specs.WordsRule.{FitsStart};
 
 use crate::guest_seat::GuestSeat;
@@ -41,8 +41,8 @@ pub struct NoWords<B> {
     pub bodies: Vec<B>,
 }
 
-fn first_word() -> Word
-    ensures { result ≡ first_word }
+fn opening_word() -> Word
+    ensures { result ≡ opening_word }
 {
     Word::new(Fields {
         usage: Usage::U,
@@ -91,7 +91,7 @@ impl<B: Body> Words<B> {
                 let words = Words { table };
                 let host = split(words.shared(), &mut seat);
                 let guest = GuestSeat::new(seat);
-                let host = HostSeat::new(host, first_word());
+                let host = HostSeat::new(host, opening_word());
                 Ok((words, guest, host))
             }
             Err(Refused { slots }) => {
@@ -144,7 +144,7 @@ impl<B: Body> Words<B> {
         requires guest_none_held { guest.view.held ≡ None }
         requires host_none_held { host.view.held ≡ None }
         requires room { vec_len into.old + self.pages ≤ vec_capacity into.old }
-        ensures bodies { HasMoved B.house self.house into.old.items into.new.items result self.pages }
+        ensures bodies { HasComeBack B.house self.house into.old.items into.new.items result self.pages }
         ensures last { IsLast B.body B.house self guest.view result }
         ensures capacity { vec_capacity into.new ≡ vec_capacity into.old }
     {

@@ -7,14 +7,14 @@ use Rattle.essa_state.specs.declared.orders.Order.{Order}
 use Rattle.essa_state.specs.declared.orders.Order.TheVariants.{SetStable}
 use Rattle.essa_state.specs.Orders.{after_order}
 use Rattle.essa_state.specs.PageBody.{Body}
-use Rattle.cmm_storage.specs.StorageView.{zeros}
+use Rattle.cmm_types.specs.Bytes.{zero_page}
 use Rattle.state_words.specs.Accesses.{CanTouch, touched_word, touched_body, Leads}
-use Rattle.state_words.specs.AccessLaws.{Leads-same, Leads-ordered, Leads-touched}
+use Rattle.state_words.specs.Laws.AccessLaws.{Leads-same, Leads-ordered, Leads-touched}
 use Rattle.state_words.specs.WordsRule.{FitsStart}
-use Rattle.words_tests.specs.Sheets.{SheetView, filled, body_of, house_of}
+use Rattle.words_tests.specs.Sheets.{SheetView, page_filled, sheet_body, house_of}
 
-pub filled_zero : filled 0 ≡ zeros
-unfolding filled zeros
+pub filled_zero : page_filled 0 ≡ zero_page
+unfolding page_filled zero_page
 filled_zero = refl
 
 pub stable-CanTouch : (w : Fields) → CanTouch (after_order w SetStable)
@@ -30,7 +30,7 @@ used w b stable touched left b' code is_stable is_touched at is_left =
     subst (λ q. Leads w b q b') (sym is_left) (Leads-ordered w b code touched b' second)
 
 -- a sheet without a frame fits the word of a page that opens
-pub two_start : (s : SheetView) → s.frame ≡ None → All (FitsStart body_of house_of (house_of s)) (s ∷ s ∷ [])
-two_start s none zero d l = (ap (λ f. is_some (option_map filled f)) none, refl)
-two_start s none (suc zero) d l = (ap (λ f. is_some (option_map filled f)) none, refl)
+pub two_start : (s : SheetView) → s.frame ≡ None → All (FitsStart sheet_body house_of (house_of s)) (s ∷ s ∷ [])
+two_start s none zero d l = (ap (λ f. is_some (option_map page_filled f)) none, refl)
+two_start s none (suc zero) d l = (ap (λ f. is_some (option_map page_filled f)) none, refl)
 two_start s none (suc (suc k)) d l = absurd (omega arith)

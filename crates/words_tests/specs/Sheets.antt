@@ -12,11 +12,11 @@ pub record SheetView : Type 0 where
   pub frame : Option ℕ
   pub block : ℕ
 
-unfoldable pub filled : ℕ → List ℕ
-filled byte = replicate PAGE byte
+unfoldable pub page_filled : ℕ → List ℕ
+page_filled byte = replicate PAGE byte
 
-abbrev pub body_of : SheetView → Body
-body_of s = record { frame = option_map filled s.frame; block = filled s.block }
+abbrev pub sheet_body : SheetView → Body
+sheet_body s = record { frame = option_map page_filled s.frame; block = page_filled s.block }
 
 -- a house for each number
 abbrev pub house_of : SheetView → TableId

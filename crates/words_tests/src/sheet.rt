@@ -1,7 +1,7 @@
 ghost use Rattle.std.specs.Prelude.{◌≡◌, true, None, Some, is_some};
 ghost use Rattle.essa_state.specs.PageBody.{moved_body};
 ghost use Rattle.state_words.specs.Accesses.{CanTouch, touched_word, touched_body};
-ghost use Rattle.words_tests.specs.Sheets.{body_of};
+ghost use Rattle.words_tests.specs.Sheets.{sheet_body};
 ghost use Rattle.cmm_types.specs.declared.page.Move.TheVariants.{Discard, Preserve};
 
 use cmm_types::Content;
@@ -26,9 +26,9 @@ impl Model for Sheet {
 }
 
 impl Body for Sheet {
-    ghost use Rattle.words_tests.specs.Sheets.{body_of, house_of};
+    ghost use Rattle.words_tests.specs.Sheets.{sheet_body, house_of};
 
-    ghost body = { body_of };
+    ghost body = { sheet_body };
 
     ghost house = { house_of };
 
@@ -50,7 +50,7 @@ impl Sheet {
     }
 
     pub(crate) fn discard(&mut self)
-        ensures body { body_of self.new ≡ moved_body Discard (body_of self.old) }
+        ensures body { sheet_body self.new ≡ moved_body Discard (sheet_body self.old) }
         ensures pool { self.new.pool ≡ self.old.pool }
     {
         self.frame = None;
@@ -58,7 +58,7 @@ impl Sheet {
 
     pub(crate) fn preserve(&mut self)
         requires { is_some self.old.frame ≡ true }
-        ensures body { body_of self.new ≡ moved_body Preserve (body_of self.old) }
+        ensures body { sheet_body self.new ≡ moved_body Preserve (sheet_body self.old) }
         ensures pool { self.new.pool ≡ self.old.pool }
     {
         match self.frame {
@@ -73,7 +73,7 @@ impl Sheet {
     pub(crate) fn touch(&mut self, word: Word) -> Word
         requires { CanTouch word }
         ensures word { result ≡ touched_word word }
-        ensures body { body_of self.new ≡ touched_body word.content (body_of self.old) }
+        ensures body { sheet_body self.new ≡ touched_body word.content (sheet_body self.old) }
         ensures pool { self.new.pool ≡ self.old.pool }
     {
         match word.content() {

@@ -1,6 +1,6 @@
 ghost use Rattle.std.specs.Prelude.{◌≡◌, ◌<◌, ◌≤◌, None, Some};
 ghost use Rattle.essa_state.specs.PageBody.{FitsWord};
-ghost use Rattle.words_tests.specs.Sheets.{body_of, house_of};
+ghost use Rattle.words_tests.specs.Sheets.{sheet_body, house_of};
 
 use crate::sheet::Sheet;
 use cmm_types::{Content, Move};
@@ -17,7 +17,7 @@ fn use_page(
     mut sheet: Sheet,
 )
     requires words { seat.old.words ≡ words.now }
-    requires held { seat.old.view.held ≡ Some (record { page = page; word = word; body = body_of sheet }) }
+    requires held { seat.old.view.held ≡ Some (record { page = page; word = word; body = sheet_body sheet }) }
     requires housed { house_of sheet ≡ words.now.house }
     ensures words { seat.new.words ≡ words.now }
     ensures none_held { seat.new.view.held ≡ None }
@@ -61,8 +61,8 @@ fn reclaim(
     mut sheet: Sheet,
 ) -> Option<Move>
     requires words { seat.old.words ≡ words.now }
-    requires held { seat.old.view.held ≡ Some (record { page = page; word = word; body = body_of sheet }) }
-    requires fits { FitsWord word (body_of sheet) }
+    requires held { seat.old.view.held ≡ Some (record { page = page; word = word; body = sheet_body sheet }) }
+    requires fits { FitsWord word (sheet_body sheet) }
     requires housed { house_of sheet ≡ words.now.house }
     ensures words { seat.new.words ≡ words.now }
     ensures none_held { seat.new.view.held ≡ None }

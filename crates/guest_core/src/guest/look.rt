@@ -1,7 +1,6 @@
 // The turns of a processor that looks at its command.
-ghost use Rattle.std.specs.Prelude.{◌≡◌, ℕ, ◌<◌, ◌+◌, ◌*◌, ◌/◌, ◌^◌, [], ◌∷◌, length, drop, None, Some, true, false, if◌then◌else◌, IsSome, MatchOption, nat_lt};
+ghost use Rattle.std.specs.Prelude.{◌≡◌, ℕ, ◌<◌, ◌*◌, ◌/◌, [], ◌∷◌, length, drop, None, Some, true, false, if◌then◌else◌, IsSome, MatchOption, nat_lt};
 ghost use Rattle.cmm_types.specs.declared.page.TheConstants.{PAGE};
-ghost use Rattle.cmm_types.specs.declared.command.TheConstants.{MAX_MAPPING_NUMBERS};
 ghost use Rattle.cmm_types.specs.declared.command.Op.TheVariants.{Read, Write, Load, Store};
 ghost use Rattle.cmm_types.specs.declared.command.FlatRefusal.TheVariants.{OutOfRange};
 ghost use Rattle.cmm_types.specs.declared.plan.TheConstants.{MAX_PROCESSES};
@@ -12,15 +11,14 @@ ghost use Rattle.guest_cache.specs.CacheView.{IsTag, page_of};
 ghost use Rattle.guest_maps.specs.MapsView.{IsMapping, entry_at, find_slot, free_slot, spot_at, tag_at};
 ghost use Rattle.guest_rules.specs.declared.processor.Phase.TheVariants.{Start};
 ghost use Rattle.guest_rules.specs.GuestState.{processor_at};
-ghost use Rattle.guest_rules.specs.Turns.{refusal_of_new, refusal_in, has_bytes, begin_turn, use_turn, hit_turn, start_tagged, start_at, start_entry, start_mapped, start_placed, map_turn, start_accepted, start_turn, turn};
-ghost use Rattle.guest_rules.specs.Fit.{all_commands};
+ghost use Rattle.guest_rules.specs.Turns.{refusal_of_new, refusal_in, file_has_bytes, start_tagged, start_at, start_entry, start_mapped, start_placed, map_turn, start_accepted, start_turn, turn};
 ghost use Rattle.guest_rules.proofs.Cases.TurnCases.{Starts, Wants};
 ghost use Rattle.guest_rules.proofs.Cases.Placed.{ReachesPlace};
 ghost use Rattle.guest_rules.proofs.Cases.Reached.{Reaches};
-ghost use Rattle.guest_core.specs.Between.{IsFit, serving};
+ghost use Rattle.guest_core.specs.Between.{CanEnter, CanLookUp, IsFit, serving};
 
 use super::Guest;
-use crate::plans::has_bytes;
+use crate::plans::file_has_bytes;
 use crate::refusals::{refusal_at, refusal_of_pin_at};
 use cmm_storage::Storage;
 use cmm_types::{Cause, FlatRefusal, MAX_LIVE_MAPPINGS, Op, PAGE, Reply, Tag, Turn};
@@ -44,10 +42,10 @@ fn serving(writes: bool, pte: Option<Pte>) -> Option<u32>
 
 impl Guest {
     /// Whether there is such a file, and it has `len` bytes from `off` on.
-    fn has_bytes(&self, file: u32, off: u32, len: u32) -> bool
-        ensures { result ≡ has_bytes self.now.plan.files file off len }
+    fn file_has_bytes(&self, file: u32, off: u32, len: u32) -> bool
+        ensures { result ≡ file_has_bytes self.now.plan.files file off len }
     {
-        has_bytes(self.plan.files.as_slice(), file, off, len)
+        file_has_bytes(self.plan.files.as_slice(), file, off, len)
     }
 
     /// Whether there is such a file.
@@ -75,9 +73,7 @@ impl Guest {
     /// The command needs a page with that tag, which it has, or is to get.
     #[tactic(auto, using(cmm_storage::specs::Runs::runs))]
     fn start_tagged<St: Storage>(&mut self, cpu: u32, st: &mut St, op: &Op, tag: Tag) -> Turn
-        requires cpu { cpu < length self.old.processors }
-        requires room { length self.old.journal < all_commands self.old.plan }
-        requires place { (processor_at self.old cpu).place + 1 < 2 ^ 32 }
+        requires enters { CanEnter self.old cpu }
         requires fit { IsFit self.old (St.view st.old) }
         requires starts { Starts self.old cpu op.now }
         requires wants { Wants self.old cpu op.now tag }
@@ -90,8 +86,7 @@ impl Guest {
                         pinned: 0,
                         unslotted: self.plan.pages,
                     });
-                    self.enter(cpu, op.copy(), reply);
-                    Turn::Finished
+                    self.finish(cpu, op, reply)
                 }
                 Some(page) => self.begin_turn(cpu, st, tag, page),
             },
@@ -121,9 +116,7 @@ impl Guest {
         slot: u32,
         off: u32,
     ) -> Turn
-        requires cpu { cpu < length self.old.processors }
-        requires room { length self.old.journal < all_commands self.old.plan }
-        requires place { (processor_at self.old cpu).place + 1 < 2 ^ 32 }
+        requires enters { CanEnter self.old cpu }
         requires fit { IsFit self.old (St.view st.old) }
         requires slot { slot < length self.old.parts.maps.slots }
         requires reaches { Reaches self.old cpu op.now writes slot off }
@@ -146,12 +139,9 @@ impl Guest {
         map: u32,
         off: u32,
     ) -> Turn
-        requires cpu { cpu < length self.old.processors }
-        requires room { length self.old.journal < all_commands self.old.plan }
-        requires place { (processor_at self.old cpu).place + 1 < 2 ^ 32 }
+        requires enters { CanEnter self.old cpu }
         requires fit { IsFit self.old (St.view st.old) }
-        requires process { process_of self.old.plan cpu < MAX_PROCESSES }
-        requires map { map < MAX_MAPPING_NUMBERS }
+        requires looks_up { CanLookUp (process_of self.old.plan cpu) map }
         requires reaches { (slot : ℕ) → find_slot self.old.parts.maps (process_of self.old.plan cpu) map ≡ Some slot → Reaches self.old cpu op.now writes slot off }
         ensures row { DoesAlone St.step (start_mapped self.old cpu op.now writes off (find_slot self.old.parts.maps (process_of self.old.plan cpu) map)) st.old (self.new, result) st.new }
     {
@@ -170,9 +160,7 @@ impl Guest {
         slot: u32,
         index: u32,
     ) -> Turn
-        requires cpu { cpu < length self.old.processors }
-        requires room { length self.old.journal < all_commands self.old.plan }
-        requires place { (processor_at self.old cpu).place + 1 < 2 ^ 32 }
+        requires enters { CanEnter self.old cpu }
         requires fit { IsFit self.old (St.view st.old) }
         requires slot { slot < length self.old.parts.maps.slots }
         requires reaches { ReachesPlace self.old cpu op.now slot index }
@@ -191,12 +179,9 @@ impl Guest {
         map: u32,
         index: u32,
     ) -> Turn
-        requires cpu { cpu < length self.old.processors }
-        requires room { length self.old.journal < all_commands self.old.plan }
-        requires place { (processor_at self.old cpu).place + 1 < 2 ^ 32 }
+        requires enters { CanEnter self.old cpu }
         requires fit { IsFit self.old (St.view st.old) }
-        requires process { process_of self.old.plan cpu < MAX_PROCESSES }
-        requires map { map < MAX_MAPPING_NUMBERS }
+        requires looks_up { CanLookUp (process_of self.old.plan cpu) map }
         requires reaches { (slot : ℕ) → find_slot self.old.parts.maps (process_of self.old.plan cpu) map ≡ Some slot → ReachesPlace self.old cpu op.now slot index }
         ensures row { DoesAlone St.step (start_placed self.old cpu op.now index (find_slot self.old.parts.maps (process_of self.old.plan cpu) map)) st.old (self.new, result) st.new }
     {
@@ -208,9 +193,7 @@ impl Guest {
 
     /// The lowest free slot gets the new mapping.
     fn map_turn(&mut self, cpu: u32, op: &Op, map: u32, shown: Shown, count: u32) -> Turn
-        requires cpu { cpu < length self.old.processors }
-        requires room { length self.old.journal < all_commands self.old.plan }
-        requires place { (processor_at self.old cpu).place + 1 < 2 ^ 32 }
+        requires enters { CanEnter self.old cpu }
         requires range { IsMapping (process_of self.old.plan cpu) map shown count }
         requires new { find_slot self.old.parts.maps (process_of self.old.plan cpu) map ≡ None }
         requires free { IsSome (free_slot self.old.parts.maps) }
@@ -218,16 +201,13 @@ impl Guest {
     {
         let process = self.process(cpu);
         self.parts.maps.add(process, map, shown, count);
-        self.enter(cpu, op.copy(), Reply::Done);
-        Turn::Finished
+        self.finish(cpu, op, Reply::Done)
     }
 
     /// A command that isn't refused.
     #[tactic(auto, using(cmm_storage::specs::Runs::runs))]
     fn start_accepted<St: Storage>(&mut self, cpu: u32, st: &mut St, op: &Op) -> Turn
-        requires cpu { cpu < length self.old.processors }
-        requires room { length self.old.journal < all_commands self.old.plan }
-        requires place { (processor_at self.old cpu).place + 1 < 2 ^ 32 }
+        requires enters { CanEnter self.old cpu }
         requires fit { IsFit self.old (St.view st.old) }
         requires starts { Starts self.old cpu op.now }
         ensures row { DoesAlone St.step (start_accepted self.old cpu op.now) st.old (self.new, result) st.new }
@@ -263,7 +243,7 @@ impl Guest {
             Op::Store { map, off, bytes: _ } => self.start_mapped(cpu, st, op, true, *map, *off),
             Op::Pin { map, page } => self.start_placed(cpu, st, op, *map, *page),
             Op::Unpin { map, page } => self.start_placed(cpu, st, op, *map, *page),
-            Op::Sync { file } => self.sync_turn(cpu, st, *file, 0),
+            Op::Sync { file } => self.sync_turn(cpu, st, op, *file, 0),
             Op::MapAnon { .. } | Op::Unmap { .. } => Turn::Idle,
         }
     }
@@ -277,15 +257,14 @@ impl Guest {
         first: u32,
         count: u32,
     ) -> Option<FlatRefusal>
-        requires process { process < MAX_PROCESSES }
-        requires map { map < MAX_MAPPING_NUMBERS }
+        requires looks_up { CanLookUp process map }
         requires pages { ArePages first count }
         ensures { result ≡ refusal_of_new self.now file first count (find_slot self.now.parts.maps process map) }
     {
         match self.parts.maps.find(process, map) {
             Some(_) => Some(FlatRefusal::AlreadyMapped),
             None => {
-                if !self.has_bytes(file, PAGE as u32 * first, PAGE as u32 * count) {
+                if !self.file_has_bytes(file, PAGE as u32 * first, PAGE as u32 * count) {
                     Some(FlatRefusal::OutOfRange)
                 } else if self.parts.maps.live() >= MAX_LIVE_MAPPINGS {
                     Some(FlatRefusal::TooManyMaps)
@@ -298,9 +277,9 @@ impl Guest {
 
     /// Why `len` bytes of a file from `off` on can't be read or written.
     fn refusal_in_file(&self, file: u32, off: u32, len: u32) -> Option<FlatRefusal>
-        ensures { result ≡ (if has_bytes self.now.plan.files file off len then None else Some OutOfRange) }
+        ensures { result ≡ (if file_has_bytes self.now.plan.files file off len then None else Some OutOfRange) }
     {
-        if self.has_bytes(file, off, len) {
+        if self.file_has_bytes(file, off, len) {
             None
         } else {
             Some(FlatRefusal::OutOfRange)
@@ -355,19 +334,14 @@ impl Guest {
     /// The turn of a processor that looks at its command.
     #[tactic(auto, using(cmm_storage::specs::Runs::runs), unfolding(guest_rules::specs::Turns::start_turn))]
     pub(super) fn start_turn<St: Storage>(&mut self, cpu: u32, st: &mut St, op: &Op) -> Turn
-        requires cpu { cpu < length self.old.processors }
-        requires room { length self.old.journal < all_commands self.old.plan }
-        requires place { (processor_at self.old cpu).place + 1 < 2 ^ 32 }
+        requires enters { CanEnter self.old cpu }
         requires fit { IsFit self.old (St.view st.old) }
         requires command { command_of self.old.plan cpu (processor_at self.old cpu).place ≡ Some op.now }
         requires start { (processor_at self.old cpu).phase ≡ Start }
         ensures row { DoesAlone St.step (start_turn self.old cpu op.now) st.old (self.new, result) st.new }
     {
         match self.refusal_on(cpu, op) {
-            Some(refusal) => {
-                self.enter(cpu, op.copy(), Reply::Refused(refusal));
-                Turn::Finished
-            }
+            Some(refusal) => self.finish(cpu, op, Reply::Refused(refusal)),
             None => self.start_accepted(cpu, st, op),
         }
     }

@@ -56,7 +56,8 @@ StopsAfter turns g v d cpu (AloneWaits all page owner) i w e = (moved : ℕ) × 
 StopsAfter turns g v d cpu AloneIdle i w e = TurnCause g v d cpu Idle i w e
 
 -- one turn more that moved
-moved_more : (moved : ℕ) (g h i : GuestState) (v m w : StorageView) (d y e : DiskView) (cpu : ℕ) (t : Turn) → TurnCause g v d cpu Moved h m y → LastTurn moved h m y cpu t i w e → LastTurn (suc moved) g v d cpu t i w e
+moved_more : (moved : ℕ) (g h i : GuestState) (v m w : StorageView) (d y e : DiskView) (cpu : ℕ) (t : Turn) → TurnCause g v d cpu Moved h m y → LastTurn moved h m y cpu t i w e
+    → LastTurn (suc moved) g v d cpu t i w e
 moved_more moved g h i v m w d y e cpu t cause k =
     record { guest = k.guest; storage = k.storage; disk = k.disk; before = (h, m, y, cause, k.before); last = k.last }
 

@@ -204,7 +204,8 @@ record SamePlace (writes writes' : Bool) (slot slot' off off' : ℕ) : Type 0 wh
   slot_is : slot ≡ slot'
   off_is : off ≡ off'
 
-same_place : (g : GuestState) (cpu : ℕ) (op : Op) (writes writes' : Bool) (slot slot' off off' : ℕ) → Maps g cpu op writes slot off → Maps g cpu op writes' slot' off' → SamePlace writes writes' slot slot' off off'
+same_place : (g : GuestState) (cpu : ℕ) (op : Op) (writes writes' : Bool) (slot slot' off off' : ℕ) → Maps g cpu op writes slot off → Maps g cpu op writes' slot' off'
+    → SamePlace writes writes' slot slot' off off'
 same_place g cpu (Load number at len) writes writes' slot slot' off off' (a, b, c) (a', b', c') = record {
   writes_is = a ∙ sym a';
   slot_is = let both : Some slot ≡ Some slot' = sym b ∙ b' in cc;
@@ -277,7 +278,8 @@ rank-looks g v cpu file index left looks (at_look file' index' is looks' h some)
 rank-looks g v cpu file index left looks (at_write file' index' page is phase h some) = absurd (looks_not_writes g cpu index index' page looks phase)
 
 -- and one less while it writes one back
-pub rank-writes : (g : GuestState) (v : StorageView) (cpu file index page left : ℕ) → (processor_at g cpu).phase ≡ SyncWrite index page → OpRank g v cpu (Sync file) left → 2 * file_pages g.plan.files file ≤ left + 2 * index + 1
+pub rank-writes : (g : GuestState) (v : StorageView) (cpu file index page left : ℕ) → (processor_at g cpu).phase ≡ SyncWrite index page → OpRank g v cpu (Sync file) left
+    → 2 * file_pages g.plan.files file ≤ left + 2 * index + 1
 rank-writes g v cpu file index page left writes (no_tag start not_sync none h) = absurd not_sync
 rank-writes g v cpu file index page left writes (served has is h) = absurd (sync_wants_none g cpu file has.tag has.wants)
 rank-writes g v cpu file index page left writes (has_page has h) = absurd (sync_wants_none g cpu file has.tag has.wants)

@@ -16,7 +16,7 @@ use Rattle.guest_pages.specs.PagesView.{info_at}
 use Rattle.guest_cache.specs.CacheView.{CacheView, page_of}
 use Rattle.guest_maps.specs.declared.slot.Pte.{Pte}
 use Rattle.guest_maps.specs.MapsView.{MapsView, place_at, entry_at, with_entry}
-use Rattle.guest_maps.specs.MapsLaws.{slots-with_entry, slots-without_entries_of}
+use Rattle.guest_maps.specs.Laws.MapsLaws.{slots-with_entry, slots-without_entries_of}
 use Rattle.guest_rules.specs.declared.parts.Parts.{Parts}
 use Rattle.guest_rules.specs.declared.processor.Phase.TheVariants.{Start, Fill}
 use Rattle.guest_rules.specs.GuestState.{GuestState, processor_at, with_parts, with_phase}
@@ -60,7 +60,8 @@ place_below : (slot index count : ℕ) → slot < MAX_MAPPING_SLOTS → index < 
 place_below slot index count below within size = omega (arith, below, within, size)
 
 -- the entry that was set serves
-resolved_rank : (g : GuestState) (v w : StorageView) (d : DiskView) (cpu : ℕ) (op : Op) (tag : Tag) (writes : Bool) (slot off page : ℕ) (found : PageValue) (after : Parts) (left : ℕ) → Fit g v d → Starts g cpu op → Wants g cpu op tag
+resolved_rank : (g : GuestState) (v w : StorageView) (d : DiskView) (cpu : ℕ) (op : Op) (tag : Tag) (writes : Bool) (slot off page : ℕ) (found : PageValue) (after : Parts) (left : ℕ) → Fit g v d
+    → Starts g cpu op → Wants g cpu op tag
     → Maps g cpu op writes slot off → HasPage g tag page → IsRehinted (mapped g.parts page slot (off / PAGE) writes) page found after (w.values page) → 1 ≤ left → Rank (with_parts g after) w cpu left
 resolved_rank g v w d cpu op tag writes slot off page found after left f starts wants maps has told h =
     has_command op starts.has.command (served
@@ -111,7 +112,15 @@ unfolding with_phase
 filled_rank g v w d cpu op page left f has not_sync there (inl (tag, wants, tagged, h)) =
     let at = at_phase g cpu op (filled g.parts page) Start has in
     has_command op at.command
-    (has_page (record { start = at.phase_is; tag = tag; page = page; wants = wanted-same g.parts (filled g.parts page) (process_of g.plan cpu) op refl ∙ wants; found = (f.pages.indexed page tag tagged).1; lost_is = there }) (omega (arith, h)))
+    (has_page (record {
+      start = at.phase_is;
+      tag = tag;
+      page = page;
+      wants = wanted-same g.parts (filled g.parts page) (process_of g.plan cpu) op refl ∙ wants;
+      found =
+          (f.pages.indexed page tag tagged).1;
+      lost_is = there;
+    }) (omega (arith, h)))
 filled_rank g v w d cpu op page left f has not_sync there (inr h) =
     let at = at_phase g cpu op (filled g.parts page) Start has in
     has_command op at.command (start_rank _ w cpu op left at.phase_is not_sync (omega (arith, h)))
@@ -146,7 +155,8 @@ rank_step g v w d e cpu left h f quiet (was_written file off bytes page found al
 rank_step g v w d e cpu left h f quiet (touch_failed op tag page found after needs starts wants has back may told eh et risen) rank = absurd (cc et)
 rank_step g v w d e cpu left h f quiet (was_resolved op tag writes slot off page found after starts wants maps has can back may told eh et) rank =
     let rank' = rank_of g v cpu op (suc left) starts.has.command rank in
-    rw eh (resolved_rank g v w d cpu op tag writes slot off page found after left f starts wants maps has told (omega (arith, rank-unserved g v cpu op tag writes slot off (suc left) wants maps can rank')))
+    rw eh (resolved_rank g v w d cpu op tag writes slot off page found after left f starts wants maps has told
+    (omega (arith, rank-unserved g v cpu op tag writes slot off (suc left) wants maps can rank')))
 rank_step g v w d e cpu left h f quiet (was_loaded number off len slot page writable all starts at_slot at are eh et may) rank = absurd (cc et)
 rank_step g v w d e cpu left h f quiet (was_stored number off bytes slot page found all starts at_slot at back may are value eh et) rank = absurd (cc et)
 rank_step g v w d e cpu left h f quiet (was_pinned pins number index slot tag page found after starts wants at has back may told eh et) rank = absurd (cc et)

@@ -34,7 +34,8 @@ passed_rank g w cpu file index left after h has few (is_done last eh et) = absur
 one_more : (index pages left : ℕ) → 2 * pages ≤ left + 2 * index → 2 * pages ≤ left + 2 * index + 1
 one_more index pages left h = omega (arith, h)
 
-look_rank : (g : GuestState) (v w : StorageView) (cpu file index left : ℕ) (after : Parts) (h : GuestState) → Syncs g cpu file index → Rank g v cpu (suc left) → Passes g cpu file index after h Moved → Rank h w cpu left
+look_rank : (g : GuestState) (v w : StorageView) (cpu file index left : ℕ) (after : Parts) (h : GuestState) → Syncs g cpu file index → Rank g v cpu (suc left)
+    → Passes g cpu file index after h Moved → Rank h w cpu left
 look_rank g v w cpu file index left after h k rank passes =
     let few = rank-looks g v cpu file index (suc left) k.looks (rank_of g v cpu (Sync file) (suc left) k.has.command rank) in
     passed_rank g w cpu file index left after h k.has (one_more index (file_pages g.plan.files file) (suc left) few) (has_passed g cpu file index after h Moved passes)
@@ -43,7 +44,8 @@ write_left : (index pages left : ℕ) → index < pages → 2 * pages ≤ suc le
 write_left index pages left within h = (omega (arith, h), omega (arith, within, h))
 
 -- one that locked a page
-locked_rank : (g : GuestState) (v w : StorageView) (cpu file index page left : ℕ) (after : Parts) → Syncs g cpu file index → Rank g v cpu (suc left) → Rank (with_phase (with_parts g after) cpu (SyncWrite index page)) w cpu left
+locked_rank : (g : GuestState) (v w : StorageView) (cpu file index page left : ℕ) (after : Parts) → Syncs g cpu file index → Rank g v cpu (suc left)
+    → Rank (with_phase (with_parts g after) cpu (SyncWrite index page)) w cpu left
 unfolding with_phase
 locked_rank g v w cpu file index page left after k rank =
     let few = rank-looks g v cpu file index (suc left) k.looks (rank_of g v cpu (Sync file) (suc left) k.has.command rank) in
@@ -51,7 +53,8 @@ locked_rank g v w cpu file index page left after k rank =
     let more = write_left index (file_pages g.plan.files file) left k.within few in
     has_command (Sync file) at.command (at_write file index page refl at.phase_is more.0 more.1)
 
-pub sync_step : (g : GuestState) (v w : StorageView) (d e : DiskView) (cpu file index left : ℕ) (h : GuestState) → Fit g v d → SyncCase g cpu file index v d h Moved w e → Rank g v cpu (suc left) → Rank h w cpu left
+pub sync_step : (g : GuestState) (v w : StorageView) (d e : DiskView) (cpu file index left : ℕ) (h : GuestState) → Fit g v d → SyncCase g cpu file index v d h Moved w e → Rank g v cpu (suc left)
+    → Rank h w cpu left
 sync_step g v w d e cpu file index left h f (not_there k none passes ew ee) rank = look_rank g v w cpu file index left g.parts h k rank passes
 sync_step g v w d e cpu file index left h f (sync_waited page owner k locked eh et ew ee) rank = absurd (cc et)
 sync_step g v w d e cpu file index left h f (sync_missed why k eh et may misses ee) rank = absurd (cc et)
@@ -73,9 +76,12 @@ pub sync_never_again : (g : GuestState) (v w : StorageView) (d e : DiskView) (cp
 sync_never_again g v w d e cpu file index h why quiet (not_there k none passes ew ee) = passes_not_again g cpu file index g.parts h why (has_passed g cpu file index g.parts h (Again why) passes)
 sync_never_again g v w d e cpu file index h why quiet (sync_waited page owner k locked eh et ew ee) = cc et
 sync_never_again g v w d e cpu file index h why quiet (sync_missed why' k eh et may misses ee) = let bad : true ≡ false = sym quiet ∙ misses.not_quiet in cc
-sync_never_again g v w d e cpu file index h why quiet (sync_gone page found k has back may lost unused passes) = passes_not_again g cpu file index _ h why (has_passed g cpu file index (handled g.parts page) h (Again why) passes)
-sync_never_again g v w d e cpu file index h why quiet (was_clean page found k has back may told unchanged clean passes) = passes_not_again g cpu file index g.parts h why (has_passed g cpu file index g.parts h (Again why) passes)
+sync_never_again g v w d e cpu file index h why quiet (sync_gone page found k has back may lost unused passes) =
+    passes_not_again g cpu file index _ h why (has_passed g cpu file index (handled g.parts page) h (Again why) passes)
+sync_never_again g v w d e cpu file index h why quiet (was_clean page found k has back may told unchanged clean passes) =
+    passes_not_again g cpu file index g.parts h why (has_passed g cpu file index g.parts h (Again why) passes)
 sync_never_again g v w d e cpu file index h why quiet (was_locked page found k has back may there dirty value eh et) = cc et
 sync_never_again g v w d e cpu file index h why quiet (write_missed page why' k eh et may misses ee) = let bad : true ≡ false = sym quiet ∙ misses.not_quiet in cc
-sync_never_again g v w d e cpu file index h why quiet (was_written_back page bytes after k are written told passes) = passes_not_again g cpu file index after h why (has_passed g cpu file index after h (Again why) passes)
+sync_never_again g v w d e cpu file index h why quiet (was_written_back page bytes after k are written told passes) =
+    passes_not_again g cpu file index after h why (has_passed g cpu file index after h (Again why) passes)
 sync_never_again g v w d e cpu file index h why quiet (write_failed page cause after k back told why' eh et) = cc et

@@ -31,7 +31,8 @@ wanted-same old new process (Pin number index) same = tag_found old new process 
 wanted-same old new process (Unpin number index) same = tag_found old new process number index same
 wanted-same old new process op same = refl
 
-pub maps-same : (g : GuestState) (new : Parts) (cpu : ℕ) (op : Op) (writes : Bool) (slot off : ℕ) → new.maps.slots ≡ g.parts.maps.slots → Maps g cpu op writes slot off → Maps (with_parts g new) cpu op writes slot off
+pub maps-same : (g : GuestState) (new : Parts) (cpu : ℕ) (op : Op) (writes : Bool) (slot off : ℕ) → new.maps.slots ≡ g.parts.maps.slots → Maps g cpu op writes slot off
+    → Maps (with_parts g new) cpu op writes slot off
 maps-same g new cpu (Load number at len) writes slot off same (is, found, here) = (is, found_same g.parts new (process_of g.plan cpu) number same ∙ found, here)
 maps-same g new cpu (Store number at bytes) writes slot off same (is, found, here) = (is, found_same g.parts new (process_of g.plan cpu) number same ∙ found, here)
 maps-same g new cpu op writes slot off same maps = absurd maps

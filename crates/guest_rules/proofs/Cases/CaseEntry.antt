@@ -25,7 +25,8 @@ use Rattle.guest_rules.proofs.Ready.Ready.{can_be_shown, lost_unlocked}
 use Rattle.guest_rules.proofs.Cases.Reached.{Reaches, entry_page}
 
 -- a load
-case_load_next : (state : FlatState) (g : GuestState) (v n w : StorageView) (d y e : DiskView) (cpu number off len slot : ℕ) (pte : Pte) (parts : Parts) (r : Result (List ℕ) Missed) (h : GuestState) (t : Turn)
+case_load_next : (state : FlatState) (g : GuestState) (v n w : StorageView) (d y e : DiskView) (cpu number off len slot : ℕ) (pte : Pte) (parts : Parts) (r : Result (List ℕ) Missed)
+    (h : GuestState) (t : Turn)
     → FitAt state g v d → Reaches g cpu (Load number off len) false slot off → entry_at g.parts.maps slot (off / PAGE) ≡ Some pte → LoadOutcome g.parts pte.page (off % PAGE) len v d parts r n y
     → Seen {A = GuestState × Turn} (read_next g cpu (Load number off len) parts r) n y (h, t) w e → TurnCase g cpu v d h t w e
 case_load_next state g v n w d y e cpu number off len slot pte parts (Ok bytes) h t f k at (tables, loaded) (ea, em, ed) =
@@ -33,7 +34,8 @@ case_load_next state g v n w d y e cpu number off len slot pte parts (Ok bytes) 
     (ap (λ q. q.0) ea ∙ ap (λ q. entered (with_parts g q) cpu (Load number off len) (BytesReply bytes)) tables ∙ ap (λ q. entered g cpu (Load number off len) (BytesReply q)) loaded.loaded)
     (ap (λ q. q.1) ea) (rw (em, ed) loaded.may)
 case_load_next state g v n w d y e cpu number off len slot pte parts (Err MissedGone) h t f k at o (ea, em, ed) =
-    was_gone (Load number off len) k.tag pte.page o.found k.starts k.wants (lost_unlocked state g v d pte.page k.tag o.found f (entry_page state g v d cpu (Load number off len) false slot off pte f k at) o.may o.lost)
+    was_gone (Load number off len) k.tag pte.page o.found k.starts k.wants
+    (lost_unlocked state g v d pte.page k.tag o.found f (entry_page state g v d cpu (Load number off len) false slot off pte f k at) o.may o.lost)
     (ap (λ q. q.0) ea ∙ ap (λ q. with_parts g q) o.tables) (ap (λ q. q.1) ea) (rw (em, ed) o.back) o.may o.lost (rw em o.unused) o.quiet
 case_load_next state g v n w d y e cpu number off len slot pte parts (Err (MissedAgain why)) h t f k at (tables, may, misses, disk) (ea, em, ed) =
     missed (Load number off len) why k.starts.has (ap (λ q. q.0) ea ∙ ap (λ q. with_parts g q) tables) (ap (λ q. q.1) ea) (rw (em, ed) may) (rw em misses) (ed ∙ disk)
@@ -54,7 +56,8 @@ case_load state g v w d e cpu number off len slot pte h t f k at run =
     case_load_next state g v x.storage w d x.disk e cpu number off len slot pte x.answer.0 x.answer.1 h t f k at o x.second
 
 -- a store
-case_store_next : (state : FlatState) (g : GuestState) (v n w : StorageView) (d y e : DiskView) (cpu number off : ℕ) (bytes : List ℕ) (slot : ℕ) (pte : Pte) (parts : Parts) (r : Result Unit Missed) (h : GuestState) (t : Turn)
+case_store_next : (state : FlatState) (g : GuestState) (v n w : StorageView) (d y e : DiskView) (cpu number off : ℕ) (bytes : List ℕ) (slot : ℕ) (pte : Pte) (parts : Parts)
+    (r : Result Unit Missed) (h : GuestState) (t : Turn)
     → FitAt state g v d → Reaches g cpu (Store number off bytes) true slot off → entry_at g.parts.maps slot (off / PAGE) ≡ Some pte → pte.writable ≡ true
     → StoreOutcome g.parts pte.page (off % PAGE) bytes v d parts r n y
     → Seen {A = GuestState × Turn} (done_next g cpu (Store number off bytes) parts r) n y (h, t) w e → TurnCase g cpu v d h t w e
@@ -63,7 +66,8 @@ case_store_next state g v n w d y e cpu number off bytes slot pte parts (Ok u) h
     (rw (em, ed) stored.back) stored.may stored.are (rw em stored.value)
     (ap (λ q. q.0) ea ∙ ap (λ q. entered (with_parts g q) cpu (Store number off bytes) Done) tables) (ap (λ q. q.1) ea)
 case_store_next state g v n w d y e cpu number off bytes slot pte parts (Err MissedGone) h t f k at writable o (ea, em, ed) =
-    was_gone (Store number off bytes) k.tag pte.page o.found k.starts k.wants (lost_unlocked state g v d pte.page k.tag o.found f (entry_page state g v d cpu (Store number off bytes) true slot off pte f k at) o.may o.lost)
+    was_gone (Store number off bytes) k.tag pte.page o.found k.starts k.wants
+    (lost_unlocked state g v d pte.page k.tag o.found f (entry_page state g v d cpu (Store number off bytes) true slot off pte f k at) o.may o.lost)
     (ap (λ q. q.0) ea ∙ ap (λ q. with_parts g q) o.tables) (ap (λ q. q.1) ea) (rw (em, ed) o.back) o.may o.lost (rw em o.unused) o.quiet
 case_store_next state g v n w d y e cpu number off bytes slot pte parts (Err (MissedAgain why)) h t f k at writable (tables, may, misses, disk) (ea, em, ed) =
     missed (Store number off bytes) why k.starts.has (ap (λ q. q.0) ea ∙ ap (λ q. with_parts g q) tables) (ap (λ q. q.1) ea) (rw (em, ed) may) (rw em misses) (ed ∙ disk)

@@ -57,7 +57,12 @@ pub case_begin : (g : GuestState) (v w : StorageView) (d e : DiskView) (cpu : �
 unfolding begin_turn
 case_begin g v w d e cpu op tag page rest h t k none free (Err busy, m, (keeps, misses, is_busy, held, may), (ea, em, ed)) =
     missed op (WasBusy page busy.word) k.starts.has (ap (λ q. q.0) ea) (ap (λ q. q.1) ea) (all_may page v w d e (rw em keeps) (rw em held) (rw em may) ed) (rw em misses) ed
-case_begin g v w d e cpu op tag page rest h t k none free (Ok u, m, (keeps, nothing, still, holds, may, is_value, quiet, _), (old, n, (keeps', nothing', still', holds', is_old, (was_done, stable), _, _), (o, (keeps'', nothing'', still'', held, value), (ea, em, ed)))) =
+case_begin g v w d e cpu op tag page rest h t k none free (
+  Ok u,
+  m,
+  (keeps, nothing, still, holds, may, is_value, quiet, _),
+  (old, n, (keeps', nothing', still', holds', is_old, (was_done, stable), _, _), (o, (keeps'', nothing'', still'', held, value), (ea, em, ed))),
+) =
     was_begun op tag page rest (m.values page) k.starts k.wants none free (ap (λ q. q.0) ea) (ap (λ q. q.1) ea)
     (given_back page v w d e (rw em (Keeps-trans v m o page keeps (Keeps-trans m n o page keeps' keeps''))) (rw em held) ed)
     may (rw em (value ∙ stable))

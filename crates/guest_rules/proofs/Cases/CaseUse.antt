@@ -16,8 +16,8 @@ use Rattle.cmm_storage.specs.Views.{Seen, unbind}
 use Rattle.guest_maps.specs.MapsView.{find_slot, entry_at}
 use Rattle.guest_rules.specs.declared.parts.Parts.{Parts}
 use Rattle.guest_rules.specs.declared.outcome.Missed.{Missed}
-use Rattle.guest_rules.specs.declared.outcome.Resolved.{Resolved}
-use Rattle.guest_rules.specs.declared.outcome.Resolved.TheVariants.{Mapped, Gone as EntryGone, Again as EntryAgain}
+use Rattle.guest_rules.specs.declared.outcome.Placed.{Placed}
+use Rattle.guest_rules.specs.declared.outcome.Placed.TheVariants.{Done as PlaceDone, Gone as PlaceGone, Again as PlaceAgain}
 use Rattle.guest_rules.specs.Rows.{read_page, resolve}
 use Rattle.guest_rules.specs.GuestState.{GuestState, with_parts, entered}
 use Rattle.guest_rules.specs.Turns.{use_turn, read_next, resolve_in, resolve_next}
@@ -51,15 +51,16 @@ case_read state g v w d e cpu file off len page h t f k has run =
     case_read_next g v x.storage w d x.disk e cpu file off len page x.answer.0 x.answer.1 h t k has o x.second
 
 -- a load or store whose entry is to be set
-case_resolve_next : (g : GuestState) (v n w : StorageView) (d y e : DiskView) (cpu : ℕ) (op : Op) (tag : Tag) (writes : Bool) (slot off page : ℕ) (parts : Parts) (r : Resolved) (h : GuestState) (t : Turn)
+case_resolve_next : (g : GuestState) (v n w : StorageView) (d y e : DiskView) (cpu : ℕ) (op : Op) (tag : Tag) (writes : Bool) (slot off page : ℕ) (parts : Parts) (r : Placed) (h : GuestState)
+    (t : Turn)
     → Proceeds g cpu op tag → Maps g cpu op writes slot off → CanBeSet (entry_at g.parts.maps slot (off / PAGE)) writes → HasPage g tag page
     → ResolveOutcome g.parts page slot (off / PAGE) writes v d parts r n y
     → Seen {A = GuestState × Turn} (resolve_next g parts r) n y (h, t) w e → TurnCase g cpu v d h t w e
-case_resolve_next g v n w d y e cpu op tag writes slot off page parts Mapped h t k maps can has (found, is) (ea, em, ed) =
+case_resolve_next g v n w d y e cpu op tag writes slot off page parts PlaceDone h t k maps can has (found, is) (ea, em, ed) =
     was_resolved op tag writes slot off page found parts k.starts k.wants maps has can (rw (em, ed) is.back) is.may (rw em is.rehinted) (ap (λ q. q.0) ea) (ap (λ q. q.1) ea)
-case_resolve_next g v n w d y e cpu op tag writes slot off page parts EntryGone h t k maps can has o (ea, em, ed) =
+case_resolve_next g v n w d y e cpu op tag writes slot off page parts PlaceGone h t k maps can has o (ea, em, ed) =
     was_gone op tag page o.found k.starts k.wants has (ap (λ q. q.0) ea ∙ ap (λ q. with_parts g q) o.tables) (ap (λ q. q.1) ea) (rw (em, ed) o.back) o.may o.lost (rw em o.unused) o.quiet
-case_resolve_next g v n w d y e cpu op tag writes slot off page parts (EntryAgain why) h t k maps can has (tables, may, misses, disk) (ea, em, ed) =
+case_resolve_next g v n w d y e cpu op tag writes slot off page parts (PlaceAgain why) h t k maps can has (tables, may, misses, disk) (ea, em, ed) =
     missed op why k.starts.has (ap (λ q. q.0) ea ∙ ap (λ q. with_parts g q) tables) (ap (λ q. q.1) ea) (rw (em, ed) may) (rw em misses) (ed ∙ disk)
 
 case_resolve : (state : FlatState) (g : GuestState) (v w : StorageView) (d e : DiskView) (cpu : ℕ) (op : Op) (tag : Tag) (writes : Bool) (slot off number page : ℕ) (h : GuestState) (t : Turn)
@@ -72,7 +73,8 @@ case_resolve state g v w d e cpu op tag writes slot off number page h t f k maps
     case_resolve_next g v x.storage w d x.disk e cpu op tag writes slot off page x.answer.0 x.answer.1 h t k maps can has o x.second
 
 -- the slot that was found is the command's
-resolve_found : (g : GuestState) (v w : StorageView) (d e : DiskView) (page number off : ℕ) (writes : Bool) (process slot : ℕ) (h : GuestState) (t : Turn) → find_slot g.parts.maps process number ≡ Some slot
+resolve_found : (g : GuestState) (v w : StorageView) (d e : DiskView) (page number off : ℕ) (writes : Bool) (process slot : ℕ) (h : GuestState) (t : Turn)
+    → find_slot g.parts.maps process number ≡ Some slot
     → Seen {A = GuestState × Turn} (resolve_in g page number off writes process (find_slot g.parts.maps process number)) v d (h, t) w e
     → Seen {A = GuestState × Turn} (resolve_in g page number off writes process (Some slot)) v d (h, t) w e
 resolve_found g v w d e page number off writes process slot h t found run =
@@ -84,11 +86,13 @@ pub case_use : (state : FlatState) (g : GuestState) (v w : StorageView) (d e : D
     → Seen {A = GuestState × Turn} (use_turn g cpu op page) v d (h, t) w e → TurnCase g cpu v d h t w e
 unfolding use_turn
 case_use state g v w d e cpu (Load number at len) tag page h t f k (sets writes slot off (is_load, found, same) can) has run =
-    let can' : CanBeSet (entry_at g.parts.maps slot (at / PAGE)) false = subst (λ q. CanBeSet (entry_at g.parts.maps slot (at / PAGE)) q) is_load (subst (λ q. CanBeSet (entry_at g.parts.maps slot (q / PAGE)) writes) same can) in
+    let can' : CanBeSet (entry_at g.parts.maps slot (at / PAGE)) false =
+    subst (λ q. CanBeSet (entry_at g.parts.maps slot (at / PAGE)) q) is_load (subst (λ q. CanBeSet (entry_at g.parts.maps slot (q / PAGE)) writes) same can) in
     case_resolve state g v w d e cpu (Load number at len) tag false slot at number page h t f k (refl, found, refl) can' has
     (resolve_found g v w d e page number at false (process_of g.plan cpu) slot h t found run)
 case_use state g v w d e cpu (Store number at bytes) tag page h t f k (sets writes slot off (is_store, found, same) can) has run =
-    let can' : CanBeSet (entry_at g.parts.maps slot (at / PAGE)) true = subst (λ q. CanBeSet (entry_at g.parts.maps slot (at / PAGE)) q) is_store (subst (λ q. CanBeSet (entry_at g.parts.maps slot (q / PAGE)) writes) same can) in
+    let can' : CanBeSet (entry_at g.parts.maps slot (at / PAGE)) true =
+    subst (λ q. CanBeSet (entry_at g.parts.maps slot (at / PAGE)) q) is_store (subst (λ q. CanBeSet (entry_at g.parts.maps slot (q / PAGE)) writes) same can) in
     case_resolve state g v w d e cpu (Store number at bytes) tag true slot at number page h t f k (refl, found, refl) can' has
     (resolve_found g v w d e page number at true (process_of g.plan cpu) slot h t found run)
 case_use state g v w d e cpu op tag page h t f k (sets writes slot off maps can) has run = absurd maps

@@ -97,7 +97,8 @@ case_load_found state g v w d e cpu number off len (Some slot) h t f starts foun
 -- a store
 case_store_hit : (state : FlatState) (g : GuestState) (v w : StorageView) (d e : DiskView) (cpu number off : ℕ) (bytes : List ℕ) (slot : ℕ) (pte : Pte) (writable : Bool) (h : GuestState) (t : Turn)
     → FitAt state g v d → Reaches g cpu (Store number off bytes) true slot off → entry_at g.parts.maps slot (off / PAGE) ≡ Some pte → pte.writable ≡ writable
-    → Seen {A = GuestState × Turn} (if true && not writable then start_at g cpu (Store number off bytes) (tag_at g.parts.maps slot (off / PAGE)) else hit_turn g cpu (Store number off bytes) pte.page) v d (h, t) w e
+    → Seen {A = GuestState × Turn} (if true && not writable then start_at g cpu (Store number off bytes) (tag_at g.parts.maps slot (off / PAGE)) else hit_turn g cpu
+    (Store number off bytes) pte.page) v d (h, t) w e
     → TurnCase g cpu v d h t w e
 case_store_hit state g v w d e cpu number off bytes slot pte true h t f k at writable run = case_store state g v w d e cpu number off bytes slot pte h t f k at writable run
 case_store_hit state g v w d e cpu number off bytes slot pte false h t f k at readonly run =
@@ -204,7 +205,8 @@ case_on : (state : FlatState) (g : GuestState) (v w : StorageView) (d e : DiskVi
     → Seen {A = GuestState × Turn} (turn_on g cpu op) v d (h, t) w e → TurnCase g cpu v d h t w e
 case_on state g v w d e cpu None h t f below none (ea, em, ed) = was_idle none (ap (λ q. q.0) ea) (ap (λ q. q.1) ea) em ed
 case_on state g v w d e cpu (Some op) h t f below command run =
-    case_in state g v w d e cpu op (processor_at g cpu).phase h t f (record { below = below; command = command }) (command-built g.plan cpu (processor_at g cpu).place op f.sizes.built command) refl run
+    case_in state g v w d e cpu op (processor_at g cpu).phase h t f (record { below = below; command = command })
+    (command-built g.plan cpu (processor_at g cpu).place op f.sizes.built command) refl run
 
 -- every run of a turn is one of its cases
 pub turn_case : (state : FlatState) (g : GuestState) (v w : StorageView) (d e : DiskView) (cpu : ℕ) (h : GuestState) (t : Turn)

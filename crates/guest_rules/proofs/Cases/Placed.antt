@@ -7,7 +7,7 @@ use Rattle.cmm_types.specs.declared.command.FlatRefusal.TheVariants.{NoMapping, 
 use Rattle.cmm_flat.specs.Legal.{process_of}
 use Rattle.guest_maps.specs.declared.slot.Slot.{Slot}
 use Rattle.guest_maps.specs.MapsView.{MapsView, IsPlace, slot_at, find_slot, pinned_at, tag_of, tag_at}
-use Rattle.guest_maps.specs.MapsLaws.{IsPlace-from}
+use Rattle.guest_maps.specs.Laws.MapsLaws.{IsPlace-from}
 use Rattle.guest_rules.specs.GuestState.{GuestState}
 use Rattle.guest_rules.specs.Turns.{mapping_pages, refusal_of_pin, refusal_of_pin_at, refusal_in}
 use Rattle.guest_rules.proofs.Cases.TurnCases.{Starts, Wants, tag_in, wanted_tag, pin_op}
@@ -37,7 +37,8 @@ accepted_pin maps slot index pins e = let k = of (nat_lt index (mapping_pages (s
     of false pins pinned e = let bad : Some OutOfRange ≡ None = e in absurd cc
 
 -- one definition of both refusals
-refusal-pin : (g : GuestState) (process : ℕ) (pins : Bool) (number index : ℕ) → refusal_in g process (pin_op pins number index) ≡ refusal_of_pin_at g.parts.maps pins index (find_slot g.parts.maps process number)
+refusal-pin : (g : GuestState) (process : ℕ) (pins : Bool) (number index : ℕ)
+    → refusal_in g process (pin_op pins number index) ≡ refusal_of_pin_at g.parts.maps pins index (find_slot g.parts.maps process number)
 refusal-pin g process true number index = refl
 refusal-pin g process false number index = refl
 
@@ -55,7 +56,8 @@ pin-found g cpu pins number index starts none =
     let bad : Some NoMapping ≡ None = ap (refusal_of_pin_at g.parts.maps pins index) (sym none) ∙ sym (refusal-pin g (process_of g.plan cpu) pins number index) ∙ starts.accepted in cc
 
 -- the tag that it wants is the place's
-pub pin-wants : (g : GuestState) (process : ℕ) (pins : Bool) (number index slot : ℕ) → find_slot g.parts.maps process number ≡ Some slot → wanted_tag g.parts process (pin_op pins number index) ≡ tag_at g.parts.maps slot index
+pub pin-wants : (g : GuestState) (process : ℕ) (pins : Bool) (number index slot : ℕ) → find_slot g.parts.maps process number ≡ Some slot
+    → wanted_tag g.parts process (pin_op pins number index) ≡ tag_at g.parts.maps slot index
 pin-wants g process true number index slot found = ap (λ o. tag_in g.parts o index) found
 pin-wants g process false number index slot found = ap (λ o. tag_in g.parts o index) found
 

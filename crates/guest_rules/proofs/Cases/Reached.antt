@@ -16,9 +16,9 @@ use Rattle.cmm_flat.specs.Legal.{process_of}
 use Rattle.cmm_storage.specs.StorageView.{StorageView}
 use Rattle.guest_pages.specs.PagesView.{info_at}
 use Rattle.guest_maps.specs.declared.slot.Pte.{Pte}
-use Rattle.guest_maps.specs.MapsView.{slot_at, find_slot, free_slot, live_slots, is_live, entry_at, tag_of, tag_at}
+use Rattle.guest_maps.specs.MapsView.{slot_at, find_slot, free_slot, live_slots, is_live_slot, entry_at, tag_of, tag_at}
 use Rattle.guest_rules.specs.GuestState.{GuestState, processor_at}
-use Rattle.guest_rules.specs.Turns.{has_bytes, mapping_pages, refusal_at, refusal_of_new}
+use Rattle.guest_rules.specs.Turns.{file_has_bytes, mapping_pages, refusal_at, refusal_of_new}
 use Rattle.guest_rules.specs.Fit.{FitAt}
 use Rattle.guest_rules.proofs.Cases.TurnCases.{Starts, Wants, Maps, CanBeSet, pin_op, ShowsPage}
 use Rattle.guest_rules.proofs.Cases.MapsFound.{found_slot, none_free, all_counted, tag_at-place}
@@ -62,14 +62,20 @@ record IsShownAt (g : GuestState) (slot index : ℕ) : Type 0 where
   within : index < MAX_MAPPING_PAGES
 
 -- a load or store that isn't refused reaches a page of its mapping
-reached : (state : FlatState) (g : GuestState) (v : StorageView) (d : DiskView) (process number : ℕ) (writes : Bool) (off len slot : ℕ) → FitAt state g v d → find_slot g.parts.maps process number ≡ Some slot
+reached : (state : FlatState) (g : GuestState) (v : StorageView) (d : DiskView) (process number : ℕ) (writes : Bool) (off len slot : ℕ) → FitAt state g v d
+    → find_slot g.parts.maps process number ≡ Some slot
     → refusal_at g.parts.maps writes off len (find_slot g.parts.maps process number) ≡ None → 1 ≤ len → IsShownAt g slot (off / PAGE)
 reached state g v d process number writes off len slot f found accepted some =
     let at = found_slot g.parts.maps process number slot found in
     let accepted' : refusal_at g.parts.maps writes off len (Some slot) ≡ None = ap (λ q. refusal_at g.parts.maps writes off len q) (sym found) ∙ accepted in
     let room : off + len ≤ PAGE * mapping_pages (slot_at g.parts.maps slot) = (accepted_at g.parts.maps writes slot off len accepted').within in
     let within : off / PAGE < at.mapping.count = within_pages off len at.mapping.count (rw at.at at room) some in
-    record { tag = tag_of at.mapping.shown slot (off / PAGE); shown = tag_at-place g.parts.maps slot (off / PAGE) at.mapping at.at within; within = omega (arith, within, (f.slots.shown slot at.mapping at.at).0) }
+    record {
+      tag = tag_of at.mapping.shown slot (off / PAGE);
+      shown = tag_at-place g.parts.maps slot (off / PAGE) at.mapping at.at within;
+      within =
+          omega (arith, within, (f.slots.shown slot at.mapping at.at).0);
+    }
 
 pub load_reaches : (state : FlatState) (g : GuestState) (v : StorageView) (d : DiskView) (cpu number off len slot : ℕ) → FitAt state g v d → Starts g cpu (Load number off len)
     → find_slot g.parts.maps (process_of g.plan cpu) number ≡ Some slot → Reaches g cpu (Load number off len) false slot off
@@ -106,12 +112,12 @@ pub has_free_slot : (state : FlatState) (g : GuestState) (v : StorageView) (d : 
     → Starts g cpu (MapFile number file first count writable) → free_slot g.parts.maps ≡ None → ⊥
 has_free_slot state g v d cpu number file first count writable f starts none =
     let few = accepted_new (find_slot g.parts.maps (process_of g.plan cpu) number) starts.accepted in
-    let all = all_counted is_live None g.parts.maps.slots live in
+    let all = all_counted is_live_slot None g.parts.maps.slots live in
     full (live_slots g.parts.maps) (length g.parts.maps.slots) few all f.slots.slots
   where
     accepted_new : (o : Option ℕ) → refusal_of_new g file first count o ≡ None → live_slots g.parts.maps < MAX_LIVE_MAPPINGS
-    accepted_new None e = fewer (has_bytes g.plan.files file (PAGE * first) (PAGE * count)) (live_slots g.parts.maps) e
+    accepted_new None e = fewer (file_has_bytes g.plan.files file (PAGE * first) (PAGE * count)) (live_slots g.parts.maps) e
     accepted_new (Some slot) e = absurd (cc e)
 
-    live : (i : ℕ) → i < length g.parts.maps.slots → is_live (slot_at g.parts.maps i) ≡ true
-    live i below = let m = none_free g.parts.maps i none below in ap is_live m.1 ∙ f.slots.live i m.0 m.1
+    live : (i : ℕ) → i < length g.parts.maps.slots → is_live_slot (slot_at g.parts.maps i) ≡ true
+    live i below = let m = none_free g.parts.maps i none below in ap is_live_slot m.1 ∙ f.slots.live i m.0 m.1

@@ -11,19 +11,19 @@ use Rattle.cmm_types.specs.declared.command.Op.TheVariants.{Read, Write, MapFile
 use Rattle.cmm_types.specs.declared.command.FlatRefusal.{FlatRefusal}
 use Rattle.cmm_types.specs.declared.command.FlatRefusal.TheVariants.{NoMapping, AlreadyMapped, OutOfRange, ReadOnly, Pinned, NotPinned, TooManyMaps}
 use Rattle.cmm_flat.specs.declared.mapping.Mapping.{Mapping}
-use Rattle.cmm_flat.specs.Bytes.{bytes_at}
-use Rattle.cmm_flat.specs.RangeLaws.{bytes_at-bytes_at}
-use Rattle.cmm_flat.specs.Mapping.{is_writable as flat_writable}
+use Rattle.cmm_types.specs.Bytes.{bytes_at}
+use Rattle.cmm_flat.specs.Laws.RangeLaws.{bytes_at-bytes_at}
+use Rattle.cmm_flat.specs.Mapping.{shows_writable as flat_writable}
 use Rattle.cmm_flat.specs.State.{FlatState, mapping_at, file_at}
-use Rattle.cmm_flat.specs.Flat.{in_file, in_mapping, has_page, is_pinned, of_live, first_of, refusal_of}
-use Rattle.cmm_flat.specs.FlatLaws.{length-file_at}
+use Rattle.cmm_flat.specs.Flat.{in_file, in_mapping, has_page, is_pinned, of_live, first_refusal, refusal_of}
+use Rattle.cmm_flat.specs.Laws.FlatLaws.{length-file_at}
 use Rattle.guest_maps.specs.declared.slot.Shown.{Shown}
 use Rattle.guest_maps.specs.declared.slot.Shown.TheVariants.{File, Anon}
 use Rattle.guest_maps.specs.declared.slot.Slot.{Slot}
 use Rattle.guest_maps.specs.MapsView.{MapsView, find_slot, live_slots, is_writable, pinned_at}
 use Rattle.guest_rules.specs.GuestState.{GuestState}
 use Rattle.guest_rules.specs.Built.{IsBuiltOp}
-use Rattle.guest_rules.specs.Turns.{file_pages, has_bytes, refusal_at, refusal_of_new, refusal_of_pin, refusal_of_pin_at, refusal_in}
+use Rattle.guest_rules.specs.Turns.{file_pages, file_has_bytes, refusal_at, refusal_of_new, refusal_of_pin, refusal_of_pin_at, refusal_in}
 use Rattle.guest_rules.specs.Fit.{SlotsFit, pins_of, flat_mapping, flat_found}
 use Rattle.guest_rules.proofs.Cases.MapsFound.{found_slot}
 use Rattle.guest_rules.proofs.Kept.PinLaws.{length-pins_of, pins_of-at}
@@ -43,13 +43,14 @@ length-file files plans file has = length-file_at files file ∙ ap (λ ns. get_
 pub length-files : (files : List (List ℕ)) (plans : List FilePlan) → HasLengths files plans → length files ≡ length plans
 length-files files plans has = sym (length-map files length) ∙ ap length has ∙ length-map plans (λ plan. PAGE * plan.pages)
 
-pub in_file-has_bytes : (files : List (List ℕ)) (plans : List FilePlan) (file off len : ℕ) → HasLengths files plans → in_file files file off len ≡ has_bytes plans file off len
+pub in_file-has_bytes : (files : List (List ℕ)) (plans : List FilePlan) (file off len : ℕ) → HasLengths files plans → in_file files file off len ≡ file_has_bytes plans file off len
 in_file-has_bytes files plans file off len has =
-    ap (λ n. nat_lt file n && nat_le (off + len) (length (file_at files file))) (length-files files plans has) ∙ ap (λ n. nat_lt file (length plans) && nat_le (off + len) n) (length-file files plans file has)
+    ap (λ n. nat_lt file n && nat_le (off + len) (length (file_at files file))) (length-files files plans has)
+    ∙ ap (λ n. nat_lt file (length plans) && nat_le (off + len) n) (length-file files plans file has)
 
 -- reads, writes and syncs of files
 abbrev range_refusal : Bool → Option FlatRefusal
-range_refusal within = first_of ((not within, OutOfRange) ∷ [])
+range_refusal within = first_refusal ((not within, OutOfRange) ∷ [])
 
 range_same : (b : Bool) → range_refusal b ≡ (if b then None else Some OutOfRange)
 range_same true = refl
@@ -57,11 +58,11 @@ range_same false = refl
 
 -- loads and stores
 abbrev load_refusal : (off len : ℕ) → Option Mapping → Option FlatRefusal
-load_refusal off len mapping = first_of ((not (is_some mapping), NoMapping) ∷ (not (of_live (in_mapping off len) mapping), OutOfRange) ∷ [])
+load_refusal off len mapping = first_refusal ((not (is_some mapping), NoMapping) ∷ (not (of_live (in_mapping off len) mapping), OutOfRange) ∷ [])
 
 abbrev store_refusal : (off len : ℕ) → Option Mapping → Option FlatRefusal
 store_refusal off len mapping =
-    first_of ((not (is_some mapping), NoMapping)
+    first_refusal ((not (is_some mapping), NoMapping)
     ∷ (not (of_live (in_mapping off len) mapping), OutOfRange)
     ∷ (not (of_live (λ m. flat_writable m.shown) mapping), ReadOnly) ∷ [])
 
@@ -74,11 +75,11 @@ writable_shown : (maps : MapsView) (at process number : ℕ) (live : Bool) (show
 writable_shown maps at process number live (File file first writable) count = refl
 writable_shown maps at process number live Anon count = refl
 
-two_tests : (b : Bool) → first_of ((not b, OutOfRange) ∷ []) ≡ (if b then (if false then Some ReadOnly else None) else Some OutOfRange)
+two_tests : (b : Bool) → first_refusal ((not b, OutOfRange) ∷ []) ≡ (if b then (if false then Some ReadOnly else None) else Some OutOfRange)
 two_tests true = refl
 two_tests false = refl
 
-three_tests : (b c : Bool) → first_of ((not b, OutOfRange) ∷ (not c, ReadOnly) ∷ []) ≡ (if b then (if true && not c then Some ReadOnly else None) else Some OutOfRange)
+three_tests : (b c : Bool) → first_refusal ((not b, OutOfRange) ∷ (not c, ReadOnly) ∷ []) ≡ (if b then (if true && not c then Some ReadOnly else None) else Some OutOfRange)
 three_tests true true = refl
 three_tests true false = refl
 three_tests false true = refl
@@ -88,7 +89,7 @@ load_same : (maps : MapsView) (process number off len : ℕ) (o : Option ℕ) �
 load_same maps process number off len None e = refl
 load_same maps process number off len (Some slot) e =
     let found = found_slot maps process number slot e in
-    rw found.at (ap (λ b. first_of ((not b, OutOfRange) ∷ [])) (in_slot maps slot found.mapping off len) ∙ two_tests (nat_le (off + len) (PAGE * found.mapping.count)))
+    rw found.at (ap (λ b. first_refusal ((not b, OutOfRange) ∷ [])) (in_slot maps slot found.mapping off len) ∙ two_tests (nat_le (off + len) (PAGE * found.mapping.count)))
 
 store_same : (maps : MapsView) (process number off len : ℕ) (o : Option ℕ) → find_slot maps process number ≡ o → store_refusal off len (flat_found maps o) ≡ refusal_at maps true off len o
 store_same maps process number off len None e = refl
@@ -97,14 +98,14 @@ store_same maps process number off len (Some slot) e =
     let m = found.mapping in
     let flat : Option Mapping = flat_mapping maps slot (Some m) in
     rw found.at (
-    ap (λ b. first_of ((not b, OutOfRange) ∷ (not (of_live (λ q. flat_writable q.shown) flat), ReadOnly) ∷ [])) (in_slot maps slot m off len)
-    ∙ ap (λ c. first_of ((not (nat_le (off + len) (PAGE * m.count)), OutOfRange) ∷ (not c, ReadOnly) ∷ [])) (writable_shown maps slot m.process m.map m.live m.shown m.count)
+    ap (λ b. first_refusal ((not b, OutOfRange) ∷ (not (of_live (λ q. flat_writable q.shown) flat), ReadOnly) ∷ [])) (in_slot maps slot m off len)
+    ∙ ap (λ c. first_refusal ((not (nat_le (off + len) (PAGE * m.count)), OutOfRange) ∷ (not c, ReadOnly) ∷ [])) (writable_shown maps slot m.process m.map m.live m.shown m.count)
     ∙ three_tests (nat_le (off + len) (PAGE * m.count)) (is_writable m.shown)
     )
 
 -- new mappings
 abbrev map_refusal : (live within full : Bool) → Option FlatRefusal
-map_refusal live within full = first_of ((live, AlreadyMapped) ∷ (not within, OutOfRange) ∷ (full, TooManyMaps) ∷ [])
+map_refusal live within full = first_refusal ((live, AlreadyMapped) ∷ (not within, OutOfRange) ∷ (full, TooManyMaps) ∷ [])
 
 new_tests : (b c : Bool) → map_refusal false b c ≡ (if b then (if c then Some TooManyMaps else None) else Some OutOfRange)
 new_tests true true = refl
@@ -113,27 +114,27 @@ new_tests false true = refl
 new_tests false false = refl
 
 map_same : (g : GuestState) (process number file first count : ℕ) (o : Option ℕ) → find_slot g.parts.maps process number ≡ o
-    → map_refusal (is_some (flat_found g.parts.maps o)) (has_bytes g.plan.files file (PAGE * first) (PAGE * count)) (nat_le MAX_LIVE_MAPPINGS (live_slots g.parts.maps))
+    → map_refusal (is_some (flat_found g.parts.maps o)) (file_has_bytes g.plan.files file (PAGE * first) (PAGE * count)) (nat_le MAX_LIVE_MAPPINGS (live_slots g.parts.maps))
     ≡ refusal_of_new g file first count o
-map_same g process number file first count None e = new_tests (has_bytes g.plan.files file (PAGE * first) (PAGE * count)) (nat_le MAX_LIVE_MAPPINGS (live_slots g.parts.maps))
+map_same g process number file first count None e = new_tests (file_has_bytes g.plan.files file (PAGE * first) (PAGE * count)) (nat_le MAX_LIVE_MAPPINGS (live_slots g.parts.maps))
 map_same g process number file first count (Some slot) e = let found = found_slot g.parts.maps process number slot e in rw found.at refl
 
 -- pins
 abbrev place_tests : (pins within is_pinned : Bool) → Option FlatRefusal
-place_tests true within is_pinned = first_of ((not within, OutOfRange) ∷ (is_pinned, Pinned) ∷ [])
-place_tests false within is_pinned = first_of ((not within, OutOfRange) ∷ (not is_pinned, NotPinned) ∷ [])
+place_tests true within is_pinned = first_refusal ((not within, OutOfRange) ∷ (is_pinned, Pinned) ∷ [])
+place_tests false within is_pinned = first_refusal ((not within, OutOfRange) ∷ (not is_pinned, NotPinned) ∷ [])
 
 abbrev pin_refusal : (pins : Bool) → (index : ℕ) → Option Mapping → Option FlatRefusal
 pin_refusal pins index None = Some NoMapping
 pin_refusal pins index (Some mapping) = place_tests pins (has_page index mapping) (is_pinned index mapping)
 
 pin_refused : (index : ℕ) (o : Option Mapping)
-    → first_of ((not (is_some o), NoMapping) ∷ (not (of_live (has_page index) o), OutOfRange) ∷ (of_live (is_pinned index) o, Pinned) ∷ []) ≡ pin_refusal true index o
+    → first_refusal ((not (is_some o), NoMapping) ∷ (not (of_live (has_page index) o), OutOfRange) ∷ (of_live (is_pinned index) o, Pinned) ∷ []) ≡ pin_refusal true index o
 pin_refused index None = refl
 pin_refused index (Some mapping) = refl
 
 unpin_refused : (index : ℕ) (o : Option Mapping)
-    → first_of ((not (is_some o), NoMapping) ∷ (not (of_live (has_page index) o), OutOfRange) ∷ (not (of_live (is_pinned index) o), NotPinned) ∷ []) ≡ pin_refusal false index o
+    → first_refusal ((not (is_some o), NoMapping) ∷ (not (of_live (has_page index) o), OutOfRange) ∷ (not (of_live (is_pinned index) o), NotPinned) ∷ []) ≡ pin_refusal false index o
 unpin_refused index None = refl
 unpin_refused index (Some mapping) = refl
 
@@ -151,7 +152,8 @@ tests_same false true flat table same = ap (place_tests false true) (same refl) 
 tests_same true false flat table same = refl
 tests_same false false flat table same = refl
 
-pin_same : (maps : MapsView) (process number index : ℕ) (pins : Bool) (o : Option ℕ) → find_slot maps process number ≡ o → pin_refusal pins index (flat_found maps o) ≡ refusal_of_pin_at maps pins index o
+pin_same : (maps : MapsView) (process number index : ℕ) (pins : Bool) (o : Option ℕ) → find_slot maps process number ≡ o
+    → pin_refusal pins index (flat_found maps o) ≡ refusal_of_pin_at maps pins index o
 pin_same maps process number index pins None e = refl
 pin_same maps process number index pins (Some slot) e =
     let found = found_slot maps process number slot e in
@@ -164,22 +166,26 @@ pin_same maps process number index pins (Some slot) e =
 -- a built command is refused by the tables as the flat machine refuses it
 pub refusal-same : (flat : FlatState) (g : GuestState) (process : ℕ) (op : Op) → IsBuiltOp op → SlotsFit flat g.parts → HasLengths flat.files g.plan.files
     → refusal_of flat process op ≡ refusal_in g process op
-refusal-same flat g process (Read file off len) built fits has = ap range_refusal (in_file-has_bytes flat.files g.plan.files file off len has) ∙ range_same (has_bytes g.plan.files file off len)
+refusal-same flat g process (Read file off len) built fits has = ap range_refusal (in_file-has_bytes flat.files g.plan.files file off len has) ∙ range_same (file_has_bytes g.plan.files file off len)
 refusal-same flat g process (Write file off bytes) built fits has =
-    ap range_refusal (in_file-has_bytes flat.files g.plan.files file off (length bytes) has) ∙ range_same (has_bytes g.plan.files file off (length bytes))
+    ap range_refusal (in_file-has_bytes flat.files g.plan.files file off (length bytes) has) ∙ range_same (file_has_bytes g.plan.files file off (length bytes))
 refusal-same flat g process (MapFile number file first count writable) built fits has =
     ap (λ m. map_refusal (is_some m) (in_file flat.files file (PAGE * first) (PAGE * count)) (nat_le MAX_LIVE_MAPPINGS (finite.len flat.mappings))) (fits.flat process number)
-    ∙ ap (λ b. map_refusal (is_some (flat_found g.parts.maps (find_slot g.parts.maps process number))) b (nat_le MAX_LIVE_MAPPINGS (finite.len flat.mappings))) (in_file-has_bytes flat.files g.plan.files file (PAGE * first) (PAGE * count) has)
-    ∙ ap (λ n. map_refusal (is_some (flat_found g.parts.maps (find_slot g.parts.maps process number))) (has_bytes g.plan.files file (PAGE * first) (PAGE * count)) (nat_le MAX_LIVE_MAPPINGS n)) fits.counted
+    ∙ ap (λ b. map_refusal (is_some (flat_found g.parts.maps (find_slot g.parts.maps process number))) b (nat_le MAX_LIVE_MAPPINGS (finite.len flat.mappings)))
+    (in_file-has_bytes flat.files g.plan.files file (PAGE * first) (PAGE * count) has)
+    ∙ ap (λ n. map_refusal (is_some (flat_found g.parts.maps (find_slot g.parts.maps process number))) (file_has_bytes g.plan.files file (PAGE * first) (PAGE * count))
+    (nat_le MAX_LIVE_MAPPINGS n)) fits.counted
     ∙ map_same g process number file first count (find_slot g.parts.maps process number) refl
 refusal-same flat g process (Load number off len) built fits has =
     ap (load_refusal off len) (fits.flat process number) ∙ load_same g.parts.maps process number off len (find_slot g.parts.maps process number) refl
 refusal-same flat g process (Store number off bytes) built fits has =
     ap (store_refusal off (length bytes)) (fits.flat process number) ∙ store_same g.parts.maps process number off (length bytes) (find_slot g.parts.maps process number) refl
 refusal-same flat g process (Pin number index) built fits has =
-    pin_refused index (mapping_at flat process number) ∙ ap (pin_refusal true index) (fits.flat process number) ∙ pin_same g.parts.maps process number index true (find_slot g.parts.maps process number) refl
+    pin_refused index (mapping_at flat process number) ∙ ap (pin_refusal true index) (fits.flat process number)
+    ∙ pin_same g.parts.maps process number index true (find_slot g.parts.maps process number) refl
 refusal-same flat g process (Unpin number index) built fits has =
-    unpin_refused index (mapping_at flat process number) ∙ ap (pin_refusal false index) (fits.flat process number) ∙ pin_same g.parts.maps process number index false (find_slot g.parts.maps process number) refl
+    unpin_refused index (mapping_at flat process number) ∙ ap (pin_refusal false index) (fits.flat process number)
+    ∙ pin_same g.parts.maps process number index false (find_slot g.parts.maps process number) refl
 refusal-same flat g process (Sync file) built fits has =
     ap (λ n. range_refusal (nat_lt file n)) (length-files flat.files g.plan.files has) ∙ range_same (nat_lt file (length g.plan.files))
 refusal-same flat g process op built fits has = absurd built

@@ -12,7 +12,7 @@ use Rattle.cmm_io.specs.DiskView.{DiskView}
 use Rattle.cmm_flat.specs.State.{FlatState}
 use Rattle.cmm_storage.specs.StorageView.{StorageView}
 use Rattle.guest_pages.specs.PagesView.{info_at, free_info}
-use Rattle.guest_cache.specs.CacheView.{CacheView, IsTag, place_of, page_of}
+use Rattle.guest_cache.specs.CacheView.{CacheView, IsTag, index_place, page_of}
 use Rattle.guest_rules.specs.GuestState.{GuestState}
 use Rattle.guest_rules.specs.Fit.{FitAt}
 use Rattle.guest_rules.proofs.Cases.Pigeons.{pigeons, AreApart}
@@ -24,7 +24,7 @@ before_within files file index there h = omega (arith, sum_by_more_le (λ pages.
 -- the place of a tag, or another where there is none
 abbrev place_or : CacheView → ℕ → Option Tag → ℕ
 place_or cache other None = other
-place_or cache other (Some tag) = place_of cache tag
+place_or cache other (Some tag) = index_place cache tag
 
 -- what stands at a page's place: the page, and nothing at the place that stands for no page
 abbrev entry_of : ℕ → ℕ → Option ℕ
@@ -83,7 +83,7 @@ never_full state g v d file index f tag none full =
     count = length g.parts.pages.infos
 
     other : ℕ
-    other = place_of g.parts.cache (File file index)
+    other = index_place g.parts.cache (File file index)
 
     place : ℕ → ℕ
     place page = place_or g.parts.cache other (info_at g.parts.pages page).tag

@@ -8,7 +8,7 @@ use Rattle.cmm_types.specs.declared.command.Op.{Op}
 use Rattle.cmm_types.specs.declared.command.Op.TheVariants.{Read, Write, Sync, MapFile, MapAnon, Unmap, Load, Store, Pin, Unpin}
 use Rattle.cmm_types.specs.declared.command.Reply.TheVariants.{Done, Bytes as BytesReply, Refused, Fail}
 use Rattle.cmm_types.specs.declared.command.Cause.{Cause}
-use Rattle.cmm_types.specs.declared.command.Cause.TheVariants.{Disk, Paging, NoPage}
+use Rattle.cmm_types.specs.declared.command.Cause.TheVariants.{Paging}
 use Rattle.cmm_types.specs.declared.command.FlatRefusal.{FlatRefusal}
 use Rattle.cmm_types.specs.declared.turn.Turn.{Turn}
 use Rattle.cmm_types.specs.declared.turn.Turn.TheVariants.{Moved, Finished, Waits, Again, Idle}
@@ -17,13 +17,14 @@ use Rattle.cmm_flat.specs.Legal.{command_of, process_of}
 use Rattle.cmm_io.specs.Faults.{HasRisen}
 use Rattle.cmm_io.specs.DiskView.{DiskView, with_block}
 use Rattle.essa_state.specs.PageValue.{PageValue, Bytes, IsMadeUnused, MayBecome, made_stable, is_lost}
-use Rattle.cmm_storage.specs.StorageView.{StorageView, write_at, Keeps, Misses}
+use Rattle.cmm_storage.specs.StorageView.{StorageView, Keeps, Misses}
+use Rattle.cmm_types.specs.Bytes.{with_bytes}
 use Rattle.guest_pages.specs.PagesView.{info_at}
 use Rattle.guest_cache.specs.CacheView.{CacheView, page_of, backing_of}
 use Rattle.guest_rules.specs.declared.processor.Phase.TheVariants.{Start, Fill, Sync as AtSync, SyncWrite}
 use Rattle.guest_maps.specs.declared.slot.Pte.{Pte}
 use Rattle.guest_maps.specs.declared.slot.Shown.TheVariants.{File as OfFile}
-use Rattle.guest_maps.specs.MapsView.{find_slot, free_slot, entry_at, tag_at, with_mapping}
+use Rattle.guest_maps.specs.MapsView.{find_slot, free_slot, entry_at, tag_at, with_slot_mapped}
 use Rattle.guest_rules.specs.declared.parts.Parts.{Parts}
 use Rattle.guest_rules.specs.Hint.{hint}
 use Rattle.guest_rules.specs.Rows.{handled, freed, filled, dirtied, with_change, mapped, pinned}
@@ -32,6 +33,7 @@ use Rattle.guest_rules.specs.Turns.{refusal_in, begun, file_pages, passed}
 use Rattle.guest_rules.specs.Fit.{NeedsPage, backing}
 pub use Rattle.guest_rules.specs.Meanwhile.{AllMay}
 use Rattle.guest_rules.specs.Syncs.{locked, unlocked, cleaned}
+use Rattle.guest_rules.specs.Answers.{FailCause}
 
 -- one page was held and given back; the disk has the blocks that it had
 pub record GivenBack (page : ℕ) (v : StorageView) (d : DiskView) (w : StorageView) (e : DiskView) : Type 0 where
@@ -70,19 +72,6 @@ wanted_tag parts process (Unmap number) = None
 
 abbrev pub Wants : GuestState → ℕ → Op → Tag → Type 0
 Wants g cpu op tag = wanted_tag g.parts (process_of g.plan cpu) op ≡ Some tag
-
--- the command reads or loads so many bytes from this offset on
-abbrev pub Fetches : Op → ℕ → ℕ → Type 0
-Fetches (Read file off len) from count = (from ≡ off) × (count ≡ len)
-Fetches (Load number off len) from count = (from ≡ off) × (count ≡ len)
-Fetches (Write file off bytes) from count = ⊥
-Fetches (Sync file) from count = ⊥
-Fetches (MapFile number file first pages writable) from count = ⊥
-Fetches (MapAnon number pages) from count = ⊥
-Fetches (Unmap number) from count = ⊥
-Fetches (Store number off bytes) from count = ⊥
-Fetches (Pin number index) from count = ⊥
-Fetches (Unpin number index) from count = ⊥
 
 -- the command loads or stores through this slot at this offset
 abbrev pub Maps : GuestState → ℕ → Op → (writes : Bool) → (slot off : ℕ) → Type 0
@@ -131,12 +120,6 @@ abbrev pub CanBeSet : Option Pte → (writes : Bool) → Type 0
 CanBeSet None writes = Unit {0}
 CanBeSet (Some pte) writes = (writes ≡ true) × (pte.writable ≡ false)
 
--- the count that rose
-abbrev pub FillCause : Cause → StorageView → DiskView → StorageView → DiskView → Type 0
-FillCause Disk v d w e = HasRisen d.faults e.faults
-FillCause Paging v d w e = HasRisen v.faults w.faults
-FillCause (NoPage pinned unslotted) v d w e = ⊥
-
 -- a processor whose sync looks at a page of its file; a sync begins with page 0
 pub record Syncs (g : GuestState) (cpu file index : ℕ) : Type 0 where
   pub has : Has g cpu (Sync file)
@@ -175,7 +158,8 @@ pub data SyncCase (g : GuestState) (cpu file index : ℕ) (v : StorageView) (d :
       → IsMadeUnused found (w.values page) → Passes g cpu file index (handled g.parts page) h t → SyncCase g cpu file index v d h t w e
   -- the page is clean
   was_clean : (page : ℕ) (found : PageValue) → Syncs g cpu file index → HasPage g (File file index) page → GivenBack page v d w e → MayBecome (v.values page) found
-      → IsRehinted g.parts page found g.parts (w.values page) → found.changed ≡ false → (info_at g.parts.pages page).dirty ≡ false → Passes g cpu file index g.parts h t → SyncCase g cpu file index v d h t w e
+      → IsRehinted g.parts page found g.parts (w.values page) → found.changed ≡ false → (info_at g.parts.pages page).dirty ≡ false → Passes g cpu file index g.parts h t
+      → SyncCase g cpu file index v d h t w e
   -- the page is dirty, and was locked
   was_locked : (page : ℕ) (found : PageValue) → Syncs g cpu file index → HasPage g (File file index) page → GivenBack page v d w e → MayBecome (v.values page) found → is_lost found.contents ≡ false
       → (info_at (with_change g.parts page found.changed).pages page).dirty ≡ true → w.values page ≡ record found { usage = S; changed = false }
@@ -183,11 +167,12 @@ pub data SyncCase (g : GuestState) (cpu file index : ℕ) (v : StorageView) (d :
   -- the locked page was busy, or there was no frame
   write_missed : (page : ℕ) (why : Why) → WritesBack g cpu file index page → h ≡ g → t ≡ Again why → AllMay v d w e → Misses v w → e ≡ d → SyncCase g cpu file index v d h t w e
   -- the page was written back. What was stored to it since it was locked makes it dirty again
-  was_written_back : (page : ℕ) (bytes : List ℕ) (after : Parts) → WritesBack g cpu file index page → (v.values page).contents ≡ Bytes bytes → WrittenBack page (File file index) g.parts.cache bytes v d w e
+  was_written_back : (page : ℕ) (bytes : List ℕ) (after : Parts) → WritesBack g cpu file index page → (v.values page).contents ≡ Bytes bytes
+      → WrittenBack page (File file index) g.parts.cache bytes v d w e
       → IsRehinted (cleaned g.parts page) page (v.values page) after (w.values page) → Passes g cpu file index after h t → SyncCase g cpu file index v d h t w e
   -- the page couldn't be written back
   write_failed : (page : ℕ) (cause : Cause) (after : Parts) → WritesBack g cpu file index page → GivenBack page v d w e → IsRehinted (unlocked g.parts page) page (v.values page) after (w.values page)
-      → FillCause cause v d w e → h ≡ entered (with_parts g after) cpu (Sync file) (Fail cause) → t ≡ Finished → SyncCase g cpu file index v d h t w e
+      → FailCause cause v d w e → h ≡ entered (with_parts g after) cpu (Sync file) (Fail cause) → t ≡ Finished → SyncCase g cpu file index v d h t w e
 
 pub data TurnCase (g : GuestState) (cpu : ℕ) (v : StorageView) (d : DiskView) (h : GuestState) (t : Turn) (w : StorageView) (e : DiskView) : Type 0 where
   -- no command is left
@@ -197,7 +182,8 @@ pub data TurnCase (g : GuestState) (cpu : ℕ) (v : StorageView) (d : DiskView) 
       → h ≡ entered g cpu op (Refused refusal) → t ≡ Finished → w ≡ v → e ≡ d → TurnCase g cpu v d h t w e
   -- a file was mapped
   was_mapped : (number file first count : ℕ) (writable : Bool) (slot : ℕ) → Starts g cpu (MapFile number file first count writable) → free_slot g.parts.maps ≡ Some slot
-      → h ≡ entered (with_parts g (record g.parts { maps = with_mapping g.parts.maps slot (process_of g.plan cpu) number (OfFile file first writable) count })) cpu (MapFile number file first count writable) Done
+      → h ≡ entered (with_parts g (record g.parts { maps = with_slot_mapped g.parts.maps slot (process_of g.plan cpu) number (OfFile file first writable) count })) cpu
+      (MapFile number file first count writable) Done
       → t ≡ Finished → w ≡ v → e ≡ d → TurnCase g cpu v d h t w e
   -- the page is locked
   waited : (op : Op) (page owner : ℕ) → Starts g cpu op → (info_at g.parts.pages page).owner ≡ Some owner
@@ -223,14 +209,15 @@ pub data TurnCase (g : GuestState) (cpu : ℕ) (v : StorageView) (d : DiskView) 
   -- the bytes were written: the change bit has moved into what is known of the page
   was_written : (file off : ℕ) (bytes : List ℕ) (page : ℕ) (found : PageValue) (all : List ℕ) → Starts g cpu (Write file off bytes) → HasPage g (File file (off / PAGE)) page
       → GivenBack page v d w e → MayBecome (v.values page) found → found.contents ≡ Bytes all
-      → w.values page ≡ record found { usage = S; changed = false; contents = Bytes (write_at all (off % PAGE) bytes) }
+      → w.values page ≡ record found { usage = S; changed = false; contents = Bytes (with_bytes all (off % PAGE) bytes) }
       → h ≡ entered (with_parts g (dirtied g.parts page)) cpu (Write file off bytes) Done → t ≡ Finished → TurnCase g cpu v d h t w e
   -- the pager failed as the bytes were to be read or written
   touch_failed : (op : Op) (tag : Tag) (page : ℕ) (found : PageValue) (after : Parts) → NeedsPage op → Starts g cpu op → Wants g cpu op tag → HasPage g tag page
       → GivenBack page v d w e → MayBecome (v.values page) found → IsRehinted g.parts page found after (w.values page)
       → h ≡ entered (with_parts g after) cpu op (Fail Paging) → t ≡ Finished → HasRisen v.faults w.faults → TurnCase g cpu v d h t w e
   -- the entry of a load or store was set
-  was_resolved : (op : Op) (tag : Tag) (writes : Bool) (slot off page : ℕ) (found : PageValue) (after : Parts) → Starts g cpu op → Wants g cpu op tag → Maps g cpu op writes slot off → HasPage g tag page
+  was_resolved : (op : Op) (tag : Tag) (writes : Bool) (slot off page : ℕ) (found : PageValue) (after : Parts) → Starts g cpu op → Wants g cpu op tag → Maps g cpu op writes slot off
+      → HasPage g tag page
       → CanBeSet (entry_at g.parts.maps slot (off / PAGE)) writes → GivenBack page v d w e → MayBecome (v.values page) found
       → IsRehinted (mapped g.parts page slot (off / PAGE) writes) page found after (w.values page) → h ≡ with_parts g after → t ≡ Moved → TurnCase g cpu v d h t w e
   -- bytes were loaded through an entry
@@ -241,7 +228,7 @@ pub data TurnCase (g : GuestState) (cpu : ℕ) (v : StorageView) (d : DiskView) 
   was_stored : (number off : ℕ) (bytes : List ℕ) (slot page : ℕ) (found : PageValue) (all : List ℕ) → Starts g cpu (Store number off bytes)
       → find_slot g.parts.maps (process_of g.plan cpu) number ≡ Some slot → entry_at g.parts.maps slot (off / PAGE) ≡ Some (record { page = page; writable = true })
       → GivenBack page v d w e → MayBecome (v.values page) found → found.contents ≡ Bytes all
-      → w.values page ≡ record found { changed = true; contents = Bytes (write_at all (off % PAGE) bytes) }
+      → w.values page ≡ record found { changed = true; contents = Bytes (with_bytes all (off % PAGE) bytes) }
       → h ≡ entered g cpu (Store number off bytes) Done → t ≡ Finished → TurnCase g cpu v d h t w e
   -- a page was pinned, or unpinned
   was_pinned : (pins : Bool) (number index slot : ℕ) (tag : Tag) (page : ℕ) (found : PageValue) (after : Parts) → Starts g cpu (pin_op pins number index) → Wants g cpu (pin_op pins number index) tag
@@ -254,7 +241,7 @@ pub data TurnCase (g : GuestState) (cpu : ℕ) (v : StorageView) (d : DiskView) 
   -- the page couldn't be filled
   fill_failed : (op : Op) (page : ℕ) (cause : Cause) → Has g cpu op → (processor_at g cpu).phase ≡ Fill page
       → h ≡ entered (with_parts g (freed g.parts page)) cpu op (Fail cause) → t ≡ Finished → GivenBack page v d w e
-      → IsMadeUnused (v.values page) (w.values page) → FillCause cause v d w e → TurnCase g cpu v d h t w e
+      → IsMadeUnused (v.values page) (w.values page) → FailCause cause v d w e → TurnCase g cpu v d h t w e
   -- the page was filled
   was_filled : (op : Op) (page : ℕ) (tag : Tag) → Has g cpu op → (processor_at g cpu).phase ≡ Fill page → (info_at g.parts.pages page).tag ≡ Some tag
       → h ≡ with_phase (with_parts g (filled g.parts page)) cpu Start → t ≡ Moved → GivenBack page v d w e

@@ -22,7 +22,7 @@ use Rattle.guest_maps.specs.declared.slot.Shown.TheVariants.{File as OfFile}
 use Rattle.guest_maps.specs.MapsView.{slot_at, find_slot, tag_of, tag_at, tag_in as slot_tag}
 use Rattle.guest_rules.specs.declared.parts.Parts.{Parts}
 use Rattle.guest_rules.specs.GuestState.{GuestState, processor_at}
-use Rattle.guest_rules.specs.Turns.{file_pages, has_bytes, refusal_in}
+use Rattle.guest_rules.specs.Turns.{file_pages, file_has_bytes, refusal_in}
 use Rattle.guest_rules.specs.Fit.{SizesFit, SlotsFit}
 use Rattle.guest_rules.proofs.Cases.TurnCases.{Has, Starts, Wants, tag_in}
 use Rattle.guest_rules.proofs.Cases.Commands.{command-in_range}
@@ -88,16 +88,13 @@ pub pages-planned : (g : GuestState) (v : StorageView) (d : DiskView) (file : �
 pages-planned g v d file f = rw f.files (pages_of_file g.plan.files file)
 
 -- a page of a file of the plan has a tag
-pub planned-tag : (g : GuestState) (v : StorageView) (d : DiskView) (file index : ℕ) → SizesFit g v d → file < length g.plan.files → index < file_pages g.plan.files file → IsTag g.parts.cache (File file index)
+pub planned-tag : (g : GuestState) (v : StorageView) (d : DiskView) (file index : ℕ) → SizesFit g v d → file < length g.plan.files → index < file_pages g.plan.files file
+    → IsTag g.parts.cache (File file index)
 planned-tag g v d file index f below within = (rw (f.files, length-map) below, rw (f.files, pages_of_file g.plan.files file) within)
 
 accepted_within : (b : Bool) → (if b then None else Some OutOfRange) ≡ None → b ≡ true
 accepted_within true e = refl
 accepted_within false e = cc
-
--- an accepted read has its bytes
-pub read-has_bytes : (g : GuestState) (process file off len : ℕ) → refusal_in g process (Read file off len) ≡ None → has_bytes g.plan.files file off len ≡ true
-read-has_bytes g process file off len e = accepted_within (has_bytes g.plan.files file off len) e
 
 -- an accepted sync has its file
 pub sync-file : (g : GuestState) (process file : ℕ) → refusal_in g process (Sync file) ≡ None → file < length g.plan.files
@@ -108,17 +105,18 @@ pub record HasBytes (g : GuestState) (file off len : ℕ) : Type 0 where
   pub file_below : file < length g.parts.cache.files
   pub within : off + len ≤ PAGE * slice_index_or g.parts.cache.files file 0
 
-pub has_bytes-file : (g : GuestState) (v : StorageView) (d : DiskView) (file off len : ℕ) → SizesFit g v d → has_bytes g.plan.files file off len ≡ true → HasBytes g file off len
+pub has_bytes-file : (g : GuestState) (v : StorageView) (d : DiskView) (file off len : ℕ) → SizesFit g v d → file_has_bytes g.plan.files file off len ≡ true → HasBytes g file off len
 has_bytes-file g v d file off len f has =
     let parts = and_parts (nat_lt file (length g.plan.files)) (nat_le (off + len) (PAGE * file_pages g.plan.files file)) has in
     record { file_below = rw (f.files, length-map g.plan.files (λ plan. plan.pages)) (ltb-true _ _ parts.0); within = rw (f.files, pages_of_file g.plan.files file) (leb-true _ _ parts.1) }
 
 -- an accepted read or write has its bytes
 pub read-bytes : (g : GuestState) (v : StorageView) (d : DiskView) (process file off len : ℕ) → SizesFit g v d → refusal_in g process (Read file off len) ≡ None → HasBytes g file off len
-read-bytes g v d process file off len f e = has_bytes-file g v d file off len f (accepted_within (has_bytes g.plan.files file off len) e)
+read-bytes g v d process file off len f e = has_bytes-file g v d file off len f (accepted_within (file_has_bytes g.plan.files file off len) e)
 
-pub write-bytes : (g : GuestState) (v : StorageView) (d : DiskView) (process file off : ℕ) (bytes : List ℕ) → SizesFit g v d → refusal_in g process (Write file off bytes) ≡ None → HasBytes g file off (length bytes)
-write-bytes g v d process file off bytes f e = has_bytes-file g v d file off (length bytes) f (accepted_within (has_bytes g.plan.files file off (length bytes)) e)
+pub write-bytes : (g : GuestState) (v : StorageView) (d : DiskView) (process file off : ℕ) (bytes : List ℕ) → SizesFit g v d → refusal_in g process (Write file off bytes) ≡ None
+    → HasBytes g file off (length bytes)
+write-bytes g v d process file off bytes f e = has_bytes-file g v d file off (length bytes) f (accepted_within (file_has_bytes g.plan.files file off (length bytes)) e)
 
 pub read-piece : (g : GuestState) (v : StorageView) (d : DiskView) (cpu file off len : ℕ) → SizesFit g v d → Has g cpu (Read file off len) → IsPiece off len
 read-piece g v d cpu file off len f has = (command-in_range g.plan cpu (processor_at g cpu).place (Read file off len) f.range has.command).1
@@ -148,7 +146,8 @@ wanted-shown parts slot index tag k = wanted-file parts tag k.file (k.first + in
 wanted-in : (state : FlatState) (parts : Parts) (o : Option ℕ) (index : ℕ) (tag : Tag) → SlotsFit state parts → tag_in parts o index ≡ Some tag → IsWanted parts tag
 wanted-in state parts o index tag f e = let k = tag_in-Some parts o index tag e in wanted-shown parts k.0 index tag (shows_at state parts k.0 index tag f k.2)
 
-pub is_wanted : (state : FlatState) (g : GuestState) (v : StorageView) (d : DiskView) (cpu : ℕ) (op : Op) (tag : Tag) → SizesFit g v d → SlotsFit state g.parts → Starts g cpu op → Wants g cpu op tag → IsWanted g.parts tag
+pub is_wanted : (state : FlatState) (g : GuestState) (v : StorageView) (d : DiskView) (cpu : ℕ) (op : Op) (tag : Tag) → SizesFit g v d → SlotsFit state g.parts → Starts g cpu op
+    → Wants g cpu op tag → IsWanted g.parts tag
 is_wanted state g v d cpu (Read file off len) tag sizes slots starts wants =
     wanted-bytes g file off len tag (read-bytes g v d (process_of g.plan cpu) file off len sizes starts.accepted) (read-piece g v d cpu file off len sizes starts.has) wants
 is_wanted state g v d cpu (Write file off bytes) tag sizes slots starts wants =

@@ -15,7 +15,8 @@ use Rattle.guest_rules.specs.declared.processor.Phase.TheVariants.{Fill}
 use Rattle.guest_rules.specs.GuestState.{GuestState, processor_at, with_parts, with_phase, entered}
 use Rattle.guest_rules.specs.Fit.{Fit, NeedsPage}
 use Rattle.guest_rules.specs.Cause.{HasMoved, HasFinished, HasShown, SyncLeads, SyncMoves, ReplyCause}
-use Rattle.guest_rules.proofs.Cases.TurnCases.{Has, FillCause}
+use Rattle.guest_rules.specs.Answers.{FailCause}
+use Rattle.guest_rules.proofs.Cases.TurnCases.{Has}
 use Rattle.guest_rules.proofs.Causes.Processors.{processor-with_phase, processor-entered}
 
 -- the tables changed
@@ -49,13 +50,14 @@ finished g v w d e cpu op parts reply h has eh cause shown = record {
   shown = rw eh shown;
 }
 
-pub fill_cause : (g : GuestState) (v w : StorageView) (d e : DiskView) (cpu : ℕ) (op : Op) (cause : Cause) → FillCause cause v d w e → ReplyCause g cpu op v d (Fail cause) w e
+pub fill_cause : (g : GuestState) (v w : StorageView) (d e : DiskView) (cpu : ℕ) (op : Op) (cause : Cause) → FailCause cause v d w e → ReplyCause g cpu op v d (Fail cause) w e
 fill_cause g v w d e cpu op Disk why = why
 fill_cause g v w d e cpu op Paging why = why
 fill_cause g v w d e cpu op (NoPage pinned unslotted) why = why
 
 -- the phase after a turn that changed it
-pub phase_after : (g : GuestState) (cpu : ℕ) (op : Op) (parts : Parts) (phase : Phase) (h : GuestState) → Has g cpu op → h ≡ with_phase (with_parts g parts) cpu phase → (processor_at h cpu).phase ≡ phase
+pub phase_after : (g : GuestState) (cpu : ℕ) (op : Op) (parts : Parts) (phase : Phase) (h : GuestState) → Has g cpu op → h ≡ with_phase (with_parts g parts) cpu phase
+    → (processor_at h cpu).phase ≡ phase
 phase_after g cpu op parts phase h has e = ap (λ q. (processor_at q cpu).phase) e ∙ ap (λ q. q.phase) (processor-with_phase (with_parts g parts) cpu phase has.below)
 
 -- where a sync's turn leads that moved
@@ -74,7 +76,8 @@ others_move g cpu op h w e has other file command =
     absurd (other file same)
 
 -- a processor that fills a page has no sync
-pub fills_for_other : (g : GuestState) (v : StorageView) (d : DiskView) (cpu : ℕ) (op : Op) (page : ℕ) → Fit g v d → Has g cpu op → (processor_at g cpu).phase ≡ Fill page → (file : ℕ) → op ≡ Sync file → ⊥
+pub fills_for_other : (g : GuestState) (v : StorageView) (d : DiskView) (cpu : ℕ) (op : Op) (page : ℕ) → Fit g v d → Has g cpu op → (processor_at g cpu).phase ≡ Fill page → (file : ℕ)
+    → op ≡ Sync file → ⊥
 fills_for_other g v d cpu op page f has phase file is =
     let k = (f.locks.filling cpu page phase).1 in
     let both : Some k.op ≡ Some (Sync file) = sym k.command ∙ has.command ∙ ap Some is in

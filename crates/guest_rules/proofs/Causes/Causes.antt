@@ -12,10 +12,10 @@ use Rattle.cmm_io.specs.DiskView.{DiskView}
 use Rattle.essa_state.specs.PageValue.{PageValue, MayBecome, is_lost}
 use Rattle.cmm_storage.specs.StorageView.{StorageView}
 use Rattle.guest_rules.specs.declared.parts.Parts.{Parts}
-use Rattle.guest_rules.specs.declared.processor.Phase.TheVariants.{Start, Fill, SyncWrite}
-use Rattle.guest_rules.specs.GuestState.{GuestState, processor_at, with_parts}
+use Rattle.guest_rules.specs.declared.processor.Phase.TheVariants.{Start}
+use Rattle.guest_rules.specs.GuestState.{GuestState, with_parts}
 use Rattle.guest_rules.specs.Rows.{with_change, dirtied}
-use Rattle.guest_rules.specs.Fit.{Fit, HasLocked}
+use Rattle.guest_rules.specs.Fit.{Fit}
 use Rattle.guest_rules.specs.Cause.{AnswerCause, IsAccepted}
 use Rattle.guest_rules.proofs.Cases.TurnCases.{TurnCase, was_idle, was_refused, was_mapped, waited, missed, missed_rehinted, was_begun, was_gone, was_read, was_written, touch_failed, was_resolved, was_loaded, was_stored, entry_failed, fill_failed, was_filled, was_pinned, pin_op, was_sync, Starts, HasPage}
 use Rattle.guest_rules.proofs.Rows.Values.{may_used}
@@ -30,21 +30,18 @@ use Rattle.guest_rules.proofs.Causes.SyncCauses.{sync_causes}
 use Rattle.guest_rules.proofs.Causes.ShownEntries.{shows_loaded, shows_stored}
 
 -- a page that is told again was changed, or nothing changed
-told_again : (g : GuestState) (v : StorageView) (page : ℕ) (changed : Bool) (after : Parts) (h : GuestState) → changed ≡ (v.values page).changed → h ≡ with_parts g after → after ≡ with_change g.parts page changed
+told_again : (g : GuestState) (v : StorageView) (page : ℕ) (changed : Bool) (after : Parts) (h : GuestState) → changed ≡ (v.values page).changed → h ≡ with_parts g after
+    → after ≡ with_change g.parts page changed
     → (h ≡ g) ⊎ ((page : ℕ) × (h ≡ with_parts g (dirtied g.parts page)) × ((v.values page).changed ≡ true))
 told_again g v page false after h was eh tables = inl (eh ∙ ap (λ q. with_parts g q) tables)
 told_again g v page true after h was eh tables = inr (page, eh ∙ ap (λ q. with_parts g q) tables, sym was)
 
 -- a page in use that is there is as it was before the turn
-found_changed : (g : GuestState) (v : StorageView) (d : DiskView) (page : ℕ) (tag : Tag) (found : PageValue) → Fit g v d → HasPage g tag page → MayBecome (v.values page) found → is_lost found.contents ≡ false
+found_changed : (g : GuestState) (v : StorageView) (d : DiskView) (page : ℕ) (tag : Tag) (found : PageValue) → Fit g v d → HasPage g tag page → MayBecome (v.values page) found
+    → is_lost found.contents ≡ false
     → found.changed ≡ (v.values page).changed
 found_changed g v d page tag found f has may there =
     ap (λ (q : PageValue). q.changed) (may_used (v.values page) found (can_be_used (flat_of g.plan g.journal) g v d page tag f has).usage may there)
-
--- a processor in phase Start has locked nothing
-starts_unlocked : (g : GuestState) (cpu page : ℕ) → (processor_at g cpu).phase ≡ Start → HasLocked g cpu page → ⊥
-starts_unlocked g cpu page start (inl fills) = let bad : Start ≡ Fill page = sym start ∙ fills in cc
-starts_unlocked g cpu page start (inr (index, writes)) = let bad : Start ≡ SyncWrite index page = sym start ∙ writes in cc
 
 -- a command that went on isn't refused
 accepted : (g : GuestState) (v : StorageView) (d : DiskView) (cpu : ℕ) (op : Op) → Fit g v d → Starts g cpu op → IsAccepted g cpu op
@@ -89,7 +86,8 @@ answer_causes g v w d e cpu h t f (touch_failed op tag page found after needs st
 answer_causes g v w d e cpu h t f (was_resolved op tag writes slot off page found after starts wants maps has can back may told eh et) =
     rw et (moved_parts g cpu op _ h starts.has eh, others_move g cpu op h w e starts.has (λ file is. wants_not_sync g cpu op tag file wants is))
 answer_causes g v w d e cpu h t f (was_loaded number off len slot page writable all starts at_slot at are eh et may) =
-    rw et (finished g v w d e cpu (Load number off len) g.parts _ h starts.has eh (accepted g v d cpu (Load number off len) f starts) (shows_loaded _ g v w d cpu number off len slot _ _ f starts at_slot at))
+    rw et (finished g v w d e cpu (Load number off len) g.parts _ h starts.has eh (accepted g v d cpu (Load number off len) f starts)
+    (shows_loaded _ g v w d cpu number off len slot _ _ f starts at_slot at))
 answer_causes g v w d e cpu h t f (was_stored number off bytes slot page found all starts at_slot at back may are value eh et) =
     rw et (finished g v w d e cpu (Store number off bytes) g.parts Done h starts.has eh (accepted g v d cpu (Store number off bytes) f starts)
     (shows_stored _ g v w d e cpu number off bytes slot page found all f starts at_slot at may are value))

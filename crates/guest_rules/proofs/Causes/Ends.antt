@@ -100,7 +100,8 @@ module _ {S D : Type 0} (ss : S → StorageCall → S → Type 0) (ds : D → Di
   abbrev Arrives : {A : Type 0} → (Option Why → A → Type 0) → S → A → S → Type 0
   Arrives Q s a t = (last : Option Why) × Q last a × Way s last t
 
-  arrives : {A : Type 0} (p : Program A) (Q : Option Why → A → Type 0) (last : Option Why) (s m : S) (d : D) (a : A) (t : S) (e : D) → Way s last m → Ends p last Q → Does ss ds p m d a t e → Arrives Q s a t
+  arrives : {A : Type 0} (p : Program A) (Q : Option Why → A → Type 0) (last : Option Why) (s m : S) (d : D) (a : A) (t : S) (e : D) → Way s last m → Ends p last Q → Does ss ds p m d a t e
+      → Arrives Q s a t
   arrives (done x) Q last s m d a t e way h (ea, es, ed) = (last, subst (Q last) (sym ea) h, subst (Way s last) (sym es) way)
   arrives (take_page p k) Q last s m d a t e way h (r, n, now, rest) = arrives (k r) Q (after_take p r last) s n d a t e (way_take s m n p r last way now) (h r) rest
   arrives (touch_page p k) Q last s m d a t e way h (r, n, now, rest) = arrives (k r) Q (after_touch r last) s n d a t e (way_touch s m n p r last way now) (h r) rest

@@ -1,5 +1,5 @@
 -- No more commands of a guest fail than calls of its disk and its pager do.
-use Rattle.std.specs.Prelude.{◌≡◌, ◌<◌, ◌≤◌, ℕ, zero, suc, ◌+◌, ◌-◌, ◌^◌, ◌++◌, ◌∷◌, [], List, length, Bool, true, cond}
+use Rattle.std.specs.Prelude.{◌≡◌, ◌<◌, ◌≤◌, ℕ, zero, suc, ◌+◌, ◌-◌, ◌^◌, ◌++◌, ◌∷◌, [], List, length, Bool, cond}
 use Rattle.std.proofs.Common.{sym, ap, subst, inl, inr, arith, ◌∙◌}
 use Rattle.std.proofs.lemmas.List.Sums.{sum_by-cons, sum_by_push, count_by-le-length}
 use Rattle.cmm_types.specs.declared.plan.GuestPlan.{GuestPlan}
@@ -19,7 +19,7 @@ use Rattle.cmm_storage.specs.Program.{done}
 use Rattle.cmm_storage.specs.Views.{Seen, seen-keeps, unbind}
 use Rattle.guest_rules.specs.GuestState.{GuestState, opening_guest}
 use Rattle.guest_rules.specs.Turns.{turn}
-use Rattle.guest_rules.specs.Alone.{most_turns, alone_after, alone_within, alone}
+use Rattle.guest_rules.specs.Alone.{alone_after, alone_within}
 use Rattle.guest_rules.specs.Fit.{Fit}
 use Rattle.guest_rules.specs.Cause.{AnswerCause, HasFinished, HasToWait, ReplyCause}
 use Rattle.guest_rules.specs.Failures.{FailuresFit, disk_failures, paging_failures, is_disk_failure, is_paging_failure, replies_of}
@@ -46,7 +46,8 @@ disk_more : (g : GuestState) (cpu : ℕ) (op : Op) (v w : StorageView) (d e : Di
 disk_more g cpu op v w d e (Fail Disk) n cause few short kept = one_more n d.faults e.faults few short cause
 disk_more g cpu op v w d e reply n cause few short kept = omega (arith, few, kept)
 
-paging_more : (g : GuestState) (cpu : ℕ) (op : Op) (v w : StorageView) (d e : DiskView) (reply : Reply) (n : ℕ) → ReplyCause g cpu op v d reply w e → n ≤ v.faults → n < 2 ^ 64 - 1 → v.faults ≤ w.faults
+paging_more : (g : GuestState) (cpu : ℕ) (op : Op) (v w : StorageView) (d e : DiskView) (reply : Reply) (n : ℕ) → ReplyCause g cpu op v d reply w e → n ≤ v.faults → n < 2 ^ 64 - 1
+    → v.faults ≤ w.faults
     → n + one_if (is_paging_failure reply) ≤ w.faults
 paging_more g cpu op v w d e (Fail Paging) n cause few short kept = one_more n v.faults w.faults few short cause
 paging_more g cpu op v w d e reply n cause few short kept = omega (arith, few, kept)
@@ -59,7 +60,8 @@ kept_finished : (g h : GuestState) (v w : StorageView) (d e : DiskView) (cpu : �
     → FailuresFit h w e
 kept_finished g h v w d e cpu f paging disk failures k =
     let disk_one : disk_failures h.journal ≡ disk_failures g.journal + one_if (is_disk_failure k.reply) = ap (replies_of is_disk_failure) k.entry ∙ replies-push is_disk_failure g.journal _ in
-    let paging_one : paging_failures h.journal ≡ paging_failures g.journal + one_if (is_paging_failure k.reply) = ap (replies_of is_paging_failure) k.entry ∙ replies-push is_paging_failure g.journal _ in
+    let paging_one : paging_failures h.journal ≡ paging_failures g.journal + one_if (is_paging_failure k.reply) = ap (replies_of is_paging_failure) k.entry
+    ∙ replies-push is_paging_failure g.journal _ in
     record {
       disk = omega (arith, disk_one, disk_more g cpu k.op v w d e k.reply (disk_failures g.journal) k.cause failures.disk (short is_disk_failure g v d f) disk);
       paging = omega (arith, paging_one, paging_more g cpu k.op v w d e k.reply (paging_failures g.journal) k.cause failures.paging (short is_paging_failure g v d f) paging);
@@ -115,12 +117,8 @@ failures_within (suc fuel) turns g i v w d e cpu a f below run failures =
     let plan = plan-turn g cpu v d x.answer.0 x.answer.1 x.storage x.disk f below x.first in
     let size : length x.answer.0.processors ≡ length g.processors = fits.sizes.processors ∙ ap (λ q. length q.cpus) plan ∙ sym f.sizes.processors in
     let kept = Failures-turn g cpu v d x.answer.0 x.answer.1 x.storage x.disk f below x.first failures in
-    failures_after fuel turns cpu x.answer.0 i x.answer.1 x.storage w x.disk e a kept (λ rest. failures_within fuel (turns + 1) x.answer.0 i x.storage w x.disk e cpu a fits (rw size below) rest kept) x.second
-
--- and so do the turns of a processor that goes on alone
-pub Failures-alone : (g : GuestState) (cpu : ℕ) (v : StorageView) (d : DiskView) (h : GuestState) (a : Alone) (w : StorageView) (e : DiskView)
-    → v.quiet ≡ true → Fit g v d → cpu < length g.processors → Seen {A = GuestState × Alone} (alone g cpu) v d (h, a) w e → FailuresFit g v d → FailuresFit h w e
-Failures-alone g cpu v d h a w e quiet f below run failures = failures_within most_turns 0 g h v w d e cpu a f below run failures
+    failures_after fuel turns cpu x.answer.0 i x.answer.1 x.storage w x.disk e a kept
+    (λ rest. failures_within fuel (turns + 1) x.answer.0 i x.storage w x.disk e cpu a fits (rw size below) rest kept) x.second
 
 -- before the first turn nothing failed
 pub Failures-opening : (plan : GuestPlan) (v : StorageView) (d : DiskView) → FailuresFit (opening_guest plan) v d
@@ -136,7 +134,8 @@ flat_reply plan walk process op (Bytes bytes) is no_disk no_paging = inl is
 flat_reply plan walk process op (Refused refusal) is no_disk no_paging = inl is
 
 -- where none failed, each reply of a legal journal is the flat machine's, or tells of the want of a page
-pub flat_replies : (plan : GuestPlan) (walk : Walk) (journal : List Entry) → LegalFrom plan walk journal → disk_failures journal ≡ 0 → paging_failures journal ≡ 0 → HasFlatRepliesFrom plan walk journal
+pub flat_replies : (plan : GuestPlan) (walk : Walk) (journal : List Entry) → LegalFrom plan walk journal → disk_failures journal ≡ 0 → paging_failures journal ≡ 0
+    → HasFlatRepliesFrom plan walk journal
 flat_replies plan walk [] legal no_disk no_paging = tt {0}
 flat_replies plan walk (entry ∷ entries) (next, rest) no_disk no_paging =
     let disk = replies-cons is_disk_failure entry entries in

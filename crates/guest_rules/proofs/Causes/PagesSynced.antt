@@ -41,7 +41,8 @@ synced_page parts w e tag page bytes found fresh contents are =
     )
 
 -- a page that was found clean and unchanged
-pub synced_clean : (state : FlatState) (g : GuestState) (v w : StorageView) (d e : DiskView) (page : ℕ) (tag : Tag) (found : PageValue) → FitAt state g v d → HasPage g tag page → GivenBack page v d w e
+pub synced_clean : (state : FlatState) (g : GuestState) (v w : StorageView) (d e : DiskView) (page : ℕ) (tag : Tag) (found : PageValue) → FitAt state g v d → HasPage g tag page
+    → GivenBack page v d w e
     → MayBecome (v.values page) found → IsRehinted g.parts page found g.parts (w.values page) → found.changed ≡ false → (info_at g.parts.pages page).dirty ≡ false → SyncedAt g.parts w e tag
 synced_clean state g v w d e page tag found f has back may told unchanged clean =
     let below = below_view state g v d page f has.below in
@@ -55,7 +56,8 @@ synced_clean state g v w d e page tag found f has back may told unchanged clean 
     (ap (λ b. backed b (backing_of g.parts.cache tag)) (sym back.blocks))
 
 -- a page that was written back
-pub synced_written : (g : GuestState) (v w : StorageView) (d e : DiskView) (cpu index page : ℕ) (bytes : List ℕ) (after : Parts) → Fit g v d → (k : IsWriting g cpu index page) → (v.values page).contents ≡ Bytes bytes
+pub synced_written : (g : GuestState) (v w : StorageView) (d e : DiskView) (cpu index page : ℕ) (bytes : List ℕ) (after : Parts) → Fit g v d → (k : IsWriting g cpu index page)
+    → (v.values page).contents ≡ Bytes bytes
     → WrittenBack page (File k.file index) g.parts.cache bytes v d w e → IsRehinted (cleaned g.parts page) page (v.values page) after (w.values page) → SyncedAt after w e (File k.file index)
 synced_written g v w d e cpu index page bytes after f k are written told =
     synced_page after w e (File k.file index) page bytes found fresh (ap (λ (q : PageValue). q.contents) told.value ∙ are) (sym behind)

@@ -7,18 +7,18 @@ use Rattle.cmm_flat.specs.Legal.{command_of}
 use Rattle.guest_rules.specs.declared.parts.Parts.{Parts}
 use Rattle.guest_rules.specs.declared.processor.Phase.{Phase}
 use Rattle.guest_rules.specs.declared.processor.Phase.TheVariants.{Start}
-use Rattle.guest_rules.specs.GuestState.{GuestState, processor_at, at_start, with_parts, with_phase, entered}
+use Rattle.guest_rules.specs.GuestState.{GuestState, processor_at, first_processor, with_parts, with_phase, entered}
 use Rattle.guest_rules.proofs.Cases.TurnCases.{Has}
 
 pub processor-with_phase : (g : GuestState) (cpu : ℕ) (phase : Phase) → cpu < length g.processors
     → processor_at (with_phase g cpu phase) cpu ≡ record { place = (processor_at g cpu).place; phase = phase }
 unfolding with_phase
-processor-with_phase g cpu phase below = get_or-set_same g.processors cpu (record { place = (processor_at g cpu).place; phase = phase }) at_start below
+processor-with_phase g cpu phase below = get_or-set_same g.processors cpu (record { place = (processor_at g cpu).place; phase = phase }) first_processor below
 
 pub processor-entered : (g : GuestState) (cpu : ℕ) (op : Op) (reply : Reply) → cpu < length g.processors
     → processor_at (entered g cpu op reply) cpu ≡ record { place = (processor_at g cpu).place + 1; phase = Start }
 unfolding entered
-processor-entered g cpu op reply below = get_or-set_same g.processors cpu (record { place = (processor_at g cpu).place + 1; phase = Start }) at_start below
+processor-entered g cpu op reply below = get_or-set_same g.processors cpu (record { place = (processor_at g cpu).place + 1; phase = Start }) first_processor below
 
 -- the processor has the same command in its new phase
 pub record IsAt (h : GuestState) (cpu : ℕ) (op : Op) (phase : Phase) : Type 0 where

@@ -10,7 +10,7 @@ use Rattle.cmm_io.specs.declared.failed.Failed.{Failed}
 use Rattle.cmm_storage.specs.declared.storage.Busy.{Busy}
 use Rattle.cmm_storage.specs.declared.storage.Trap.{Trap}
 use Rattle.cmm_storage.specs.declared.storage.Trap.TheVariants.{Discarded, Paging, NoFrame}
-use Rattle.cmm_storage.specs.StorageView.{zeros}
+use Rattle.cmm_types.specs.Bytes.{zero_page}
 use Rattle.cmm_storage.specs.Program.{done, put_page, bind}
 use Rattle.guest_pages.specs.PagesView.{info_at}
 use Rattle.guest_rules.specs.declared.parts.Parts.{Parts}
@@ -19,8 +19,8 @@ use Rattle.guest_rules.specs.declared.outcome.Filled.{Filled}
 use Rattle.guest_rules.specs.declared.outcome.Filled.TheVariants.{Done as FilledDone, Again as FilledAgain, Fail as FilledFail}
 use Rattle.guest_rules.specs.declared.outcome.Missed.{Missed}
 use Rattle.guest_rules.specs.declared.outcome.Missed.TheVariants.{Gone as MissedGone, Again as MissedAgain, Fail as MissedFail}
-use Rattle.guest_rules.specs.declared.outcome.Resolved.{Resolved}
-use Rattle.guest_rules.specs.declared.outcome.Resolved.TheVariants.{Mapped, Gone as EntryGone, Again as EntryAgain}
+use Rattle.guest_rules.specs.declared.outcome.Placed.{Placed}
+use Rattle.guest_rules.specs.declared.outcome.Placed.TheVariants.{Done as PlaceDone, Gone as PlaceGone, Again as PlaceAgain}
 use Rattle.guest_rules.specs.declared.outcome.Synced.{Synced}
 use Rattle.guest_rules.specs.declared.outcome.Synced.TheVariants.{Clean, Locked, Gone as SyncGone, Waits as IsLocked, Again as SyncAgain}
 use Rattle.guest_rules.specs.Rows.{handled, handler, tell, with_change, rehint, make_stable, missed_by, touch_missed, read_page, read_stable, read_touched, write_page, write_stable, write_touched, load_page, load_touched, store_through, store_touched, resolve, resolve_stable, pin_page, pin_stable, fill, fill_with, fill_read, fill_from, fill_touched, backing_at, dirtied, mapped, pinned, filled}
@@ -37,13 +37,13 @@ MissNames {R} last a = of a.1
     of (Err (MissedAgain why)) = last ≡ Some why
     of (Err (MissedFail cause)) = Unit {0}
 
-abbrev pub ResolvedNames : Option Why → Parts × Resolved → Type 0
-ResolvedNames last a = of a.1
+abbrev pub PlacedNames : Option Why → Parts × Placed → Type 0
+PlacedNames last a = of a.1
   where
-    of : Resolved → Type 0
-    of Mapped = Unit {0}
-    of EntryGone = Unit {0}
-    of (EntryAgain why) = last ≡ Some why
+    of : Placed → Type 0
+    of PlaceDone = Unit {0}
+    of PlaceGone = Unit {0}
+    of (PlaceAgain why) = last ≡ Some why
 
 abbrev pub FilledNames : Option Why → Parts × Filled → Type 0
 FilledNames last a = of a.1
@@ -79,7 +79,8 @@ handler_ends : (parts : Parts) (page : ℕ) (last : Option Why) (Q : Option Why 
 unfolding handler
 handler_ends parts page last Q h = λ was_done. h (handled parts page)
 
-stable_ends : (parts : Parts) (page : ℕ) (last : Option Why) (Q : Option Why → Parts × Result Unit Gone → Type 0) → ((after : Parts) (r : Result Unit Gone) → Q last (after, r)) → Ends (make_stable parts page) last Q
+stable_ends : (parts : Parts) (page : ℕ) (last : Option Why) (Q : Option Why → Parts × Result Unit Gone → Type 0) → ((after : Parts) (r : Result Unit Gone) → Q last (after, r))
+    → Ends (make_stable parts page) last Q
 unfolding make_stable
 stable_ends parts page last Q h true = h parts (Ok tt)
 stable_ends parts page last Q h false =
@@ -91,7 +92,8 @@ told_ends : {R : Type 0} (parts : Parts) (page : ℕ) (r : R) (last : Option Why
 told_ends {R} parts page r last Q h = ends_bind (rehint parts page) (λ after. put_page page (done (after, r))) last Q (rehint_ends parts page last (λ l after. Q l (after, r)) h)
 
 -- a page that was made stable, but couldn't be touched
-untouched_ends : (R : Type 0) (parts : Parts) (page : ℕ) (trap : Trap) → Ends {A = Parts × Result R Missed} (bind (rehint parts page) (λ after. put_page page (done (after, Err (missed_by trap))))) (after_touch (Err trap) None) (MissNames {R = R})
+untouched_ends : (R : Type 0) (parts : Parts) (page : ℕ) (trap : Trap)
+    → Ends {A = Parts × Result R Missed} (bind (rehint parts page) (λ after. put_page page (done (after, Err (missed_by trap))))) (after_touch (Err trap) None) (MissNames {R = R})
 untouched_ends R parts page Discarded = told_ends {R = Result R Missed} parts page _ None (MissNames {R = R}) (λ after. tt)
 untouched_ends R parts page Paging = told_ends {R = Result R Missed} parts page _ None (MissNames {R = R}) (λ after. tt)
 untouched_ends R parts page (NoFrame looks) = told_ends {R = Result R Missed} parts page _ (Some (HadNoFrame looks)) (MissNames {R = R}) (λ after. refl)
@@ -130,7 +132,8 @@ write_ends parts page off bytes (Ok u) =
 
 miss_ends : (R : Type 0) (parts : Parts) (page : ℕ) (trap : Trap) → Ends {A = Parts × Result R Missed} (touch_missed page parts trap) (after_touch (Err trap) None) (MissNames {R = R})
 miss_ends R parts page Discarded =
-    ends_bind (handler parts page) (λ after. put_page page (done (after, Err MissedGone))) None (MissNames {R = R}) (handler_ends parts page None (λ l after. MissNames {R = R} l (after, Err MissedGone)) (λ after. tt))
+    ends_bind (handler parts page) (λ after. put_page page (done (after, Err MissedGone))) None (MissNames {R = R})
+    (handler_ends parts page None (λ l after. MissNames {R = R} l (after, Err MissedGone)) (λ after. tt))
 miss_ends R parts page Paging = tt
 miss_ends R parts page (NoFrame looks) = refl
 
@@ -154,27 +157,27 @@ store_ends parts page off bytes (Ok u) = λ trap. store_touch page off bytes par
 
 -- ---- entries and pins
 
-resolve_gone : (page slot index : ℕ) (writable : Bool) (parts : Parts) (r : Result Unit Gone) → Ends (resolve_stable page slot index writable parts r) None ResolvedNames
-resolve_gone page slot index writable parts (Ok u) = told_ends (mapped parts page slot index writable) page Mapped None ResolvedNames (λ after. tt)
+resolve_gone : (page slot index : ℕ) (writable : Bool) (parts : Parts) (r : Result Unit Gone) → Ends (resolve_stable page slot index writable parts r) None PlacedNames
+resolve_gone page slot index writable parts (Ok u) = told_ends (mapped parts page slot index writable) page PlaceDone None PlacedNames (λ after. tt)
 resolve_gone page slot index writable parts (Err gone) = tt
 
-pub resolve_ends : (parts : Parts) (page slot index : ℕ) (writable : Bool) → Ends (resolve parts page slot index writable) None ResolvedNames
+pub resolve_ends : (parts : Parts) (page slot index : ℕ) (writable : Bool) → Ends (resolve parts page slot index writable) None PlacedNames
 unfolding resolve
 resolve_ends parts page slot index writable (Err busy) = refl
 resolve_ends parts page slot index writable (Ok u) =
-    ends_bind (make_stable parts page) (λ went. resolve_stable page slot index writable went.0 went.1) None ResolvedNames
-    (stable_ends parts page None (λ l went. Ends (resolve_stable page slot index writable went.0 went.1) l ResolvedNames) (λ after r. resolve_gone page slot index writable after r))
+    ends_bind (make_stable parts page) (λ went. resolve_stable page slot index writable went.0 went.1) None PlacedNames
+    (stable_ends parts page None (λ l went. Ends (resolve_stable page slot index writable went.0 went.1) l PlacedNames) (λ after r. resolve_gone page slot index writable after r))
 
-pin_gone : (page slot index : ℕ) (pins : Bool) (parts : Parts) (r : Result Unit Gone) → Ends (pin_stable page slot index pins parts r) None (MissNames {R = Unit {0}})
-pin_gone page slot index pins parts (Ok u) = told_ends {R = Result Unit Missed} (pinned parts page slot index pins) page (Ok tt) None (MissNames {R = Unit {0}}) (λ after. tt)
+pin_gone : (page slot index : ℕ) (pins : Bool) (parts : Parts) (r : Result Unit Gone) → Ends (pin_stable page slot index pins parts r) None PlacedNames
+pin_gone page slot index pins parts (Ok u) = told_ends (pinned parts page slot index pins) page PlaceDone None PlacedNames (λ after. tt)
 pin_gone page slot index pins parts (Err gone) = tt
 
-pub pin_ends : (parts : Parts) (page slot index : ℕ) (pins : Bool) → Ends (pin_page parts page slot index pins) None (MissNames {R = Unit {0}})
+pub pin_ends : (parts : Parts) (page slot index : ℕ) (pins : Bool) → Ends (pin_page parts page slot index pins) None PlacedNames
 unfolding pin_page
 pin_ends parts page slot index pins (Err busy) = refl
 pin_ends parts page slot index pins (Ok u) =
-    ends_bind (make_stable parts page) (λ went. pin_stable page slot index pins went.0 went.1) None (MissNames {R = Unit {0}})
-    (stable_ends parts page None (λ l went. Ends (pin_stable page slot index pins went.0 went.1) l (MissNames {R = Unit {0}})) (λ after r. pin_gone page slot index pins after r))
+    ends_bind (make_stable parts page) (λ went. pin_stable page slot index pins went.0 went.1) None PlacedNames
+    (stable_ends parts page None (λ l went. Ends (pin_stable page slot index pins went.0 went.1) l PlacedNames) (λ after r. pin_gone page slot index pins after r))
 
 -- ---- the filling of a page
 
@@ -187,7 +190,7 @@ fill_block parts page (Err failed) = λ was_done. tt
 
 fill_behind : (parts : Parts) (page : ℕ) (block : Option ℕ) → Ends (fill_from parts page block) None FilledNames
 fill_behind parts page (Some block) = λ r. fill_block parts page r
-fill_behind parts page None = fill_given parts page zeros
+fill_behind parts page None = fill_given parts page zero_page
 
 fill_touch : (parts : Parts) (page : ℕ) (trap : Result Unit Trap) → Ends (fill_touched parts page trap) (after_touch trap None) FilledNames
 fill_touch parts page (Ok u) = fill_behind parts page (backing_at parts page)

@@ -10,7 +10,8 @@ use Rattle.cmm_flat.specs.State.{FlatState}
 use Rattle.cmm_flat.specs.Legal.{process_of}
 use Rattle.cmm_io.specs.DiskView.{DiskView}
 use Rattle.essa_state.specs.PageValue.{PageValue, Bytes, MayBecome}
-use Rattle.cmm_storage.specs.StorageView.{StorageView, write_at}
+use Rattle.cmm_storage.specs.StorageView.{StorageView}
+use Rattle.cmm_types.specs.Bytes.{with_bytes}
 use Rattle.guest_maps.specs.declared.slot.Pte.{Pte}
 use Rattle.guest_maps.specs.MapsView.{find_slot, entry_at}
 use Rattle.guest_rules.specs.GuestState.{GuestState, processor_at, entered}
@@ -31,16 +32,19 @@ shown_entry state g v d cpu number op writes slot off pte reply f k found at all
     let has = entry_page state g v d cpu op writes slot off pte f k at in
     record { slot = slot; writable = pte.writable; found = found; entry = at; allows = allows; uptodate = has.uptodate }
 
-pub shows_loaded : (state : FlatState) (g : GuestState) (v w : StorageView) (d : DiskView) (cpu number off len slot : ℕ) (pte : Pte) (bytes : List ℕ) → FitAt state g v d → Starts g cpu (Load number off len)
+pub shows_loaded : (state : FlatState) (g : GuestState) (v w : StorageView) (d : DiskView) (cpu number off len slot : ℕ) (pte : Pte) (bytes : List ℕ) → FitAt state g v d
+    → Starts g cpu (Load number off len)
     → find_slot g.parts.maps (process_of g.plan cpu) number ≡ Some slot → entry_at g.parts.maps slot (off / PAGE) ≡ Some pte
     → ShowsBytes g cpu (Load number off len) (entered g cpu (Load number off len) (BytesReply bytes))
 shows_loaded state g v w d cpu number off len slot pte bytes f starts found at =
     let k = load_reaches state g v d cpu number off len slot f starts found in
     (pte.page, shown_entry state g v d cpu number (Load number off len) false slot off pte (BytesReply bytes) f k found at (λ bad. absurd (cc bad)))
 
-pub shows_stored : (state : FlatState) (g : GuestState) (v w : StorageView) (d e : DiskView) (cpu number off : ℕ) (bytes : List ℕ) (slot page : ℕ) (found : PageValue) (all : List ℕ) → FitAt state g v d
-    → Starts g cpu (Store number off bytes) → find_slot g.parts.maps (process_of g.plan cpu) number ≡ Some slot → entry_at g.parts.maps slot (off / PAGE) ≡ Some (record { page = page; writable = true })
-    → MayBecome (v.values page) found → found.contents ≡ Bytes all → w.values page ≡ record found { changed = true; contents = Bytes (write_at all (off % PAGE) bytes) }
+pub shows_stored : (state : FlatState) (g : GuestState) (v w : StorageView) (d e : DiskView) (cpu number off : ℕ) (bytes : List ℕ) (slot page : ℕ) (found : PageValue) (all : List ℕ)
+    → FitAt state g v d
+    → Starts g cpu (Store number off bytes) → find_slot g.parts.maps (process_of g.plan cpu) number ≡ Some slot
+    → entry_at g.parts.maps slot (off / PAGE) ≡ Some (record { page = page; writable = true })
+    → MayBecome (v.values page) found → found.contents ≡ Bytes all → w.values page ≡ record found { changed = true; contents = Bytes (with_bytes all (off % PAGE) bytes) }
     → ShowsDone g cpu (Store number off bytes) (entered g cpu (Store number off bytes) Done) w e
 shows_stored state g v w d e cpu number off bytes slot page found all f starts at_slot at may are value =
     let pte : Pte = record { page = page; writable = true } in
@@ -52,7 +56,7 @@ shows_stored state g v w d e cpu number off bytes slot page found all f starts a
       shown_entry state g v d cpu number (Store number off bytes) true slot off pte Done f k at_slot at (λ e. refl),
       record {
         changed = ap (λ q. q.changed) value;
-        all = write_at all (off % PAGE) bytes;
+        all = with_bytes all (off % PAGE) bytes;
         are = ap (λ q. q.contents) value;
         there = written_there state g v d page (off % PAGE) k.tag found all bytes f has wanted may are piece.within_page;
       },

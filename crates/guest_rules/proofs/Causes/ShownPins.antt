@@ -27,7 +27,8 @@ use Rattle.guest_rules.proofs.Kept.PinsKept.{tag-same}
 use Rattle.guest_rules.proofs.Bound.WantedKept.{found_same}
 
 -- a page that was found changed is as up to date as it was
-uptodate-changed : (parts : Parts) (page : ℕ) (changed : Bool) (info : PageInfo) → InfoChange parts.pages (with_change parts page changed).pages page (changed_info changed info) → (info_at (with_change parts page changed).pages page).uptodate ≡ info.uptodate
+uptodate-changed : (parts : Parts) (page : ℕ) (changed : Bool) (info : PageInfo) → InfoChange parts.pages (with_change parts page changed).pages page (changed_info changed info)
+    → (info_at (with_change parts page changed).pages page).uptodate ≡ info.uptodate
 uptodate-changed parts page true info c = ap (λ (i : PageInfo). i.uptodate) c.here
 uptodate-changed parts page false info c = ap (λ (i : PageInfo). i.uptodate) c.here
 
@@ -43,7 +44,8 @@ place_shown : (g h : GuestState) (cpu : ℕ) (pins : Bool) (number slot index : 
 place_shown g h cpu true number slot index tag w e k = record { slot = slot; found = k.found; pinned = k.place; tag = tag; mapped = k.mapped; kept = k.kept }
 place_shown g h cpu false number slot index tag w e k = record { slot = slot; found = k.found; unpinned = k.place }
 
-pub shows_pinned : (state : FlatState) (g : GuestState) (v w : StorageView) (d e : DiskView) (cpu : ℕ) (pins : Bool) (number index slot : ℕ) (tag : Tag) (page : ℕ) (found : PageValue) (after : Parts) → FitAt state g v d
+pub shows_pinned : (state : FlatState) (g : GuestState) (v w : StorageView) (d e : DiskView) (cpu : ℕ) (pins : Bool) (number index slot : ℕ) (tag : Tag) (page : ℕ) (found : PageValue)
+    (after : Parts) → FitAt state g v d
     → Starts g cpu (pin_op pins number index) → Wants g cpu (pin_op pins number index) tag → find_slot g.parts.maps (process_of g.plan cpu) number ≡ Some slot → HasPage g tag page
     → IsRehinted (pinned g.parts page slot index pins) page found after (w.values page)
     → ShowsDone g cpu (pin_op pins number index) (entered (with_parts g after) cpu (pin_op pins number index) Done) w e
@@ -56,7 +58,8 @@ shows_pinned state g v w d e cpu pins number index slot tag page found after f s
       kept = record {
         page = page;
         there = ap (λ (c : CacheView). page_of c tag) cache ∙ (f.pages.indexed page tag has.tagged).1;
-        uptodate = ap (λ q. (info_at q.pages page).uptodate) told.tables ∙ uptodate-changed middle page found.changed (info_at middle.pages page) (change-changed middle page found.changed (rw change.size has.below))
+        uptodate = ap (λ q. (info_at q.pages page).uptodate) told.tables
+            ∙ uptodate-changed middle page found.changed (info_at middle.pages page) (change-changed middle page found.changed (rw change.size has.below))
             ∙ ap (λ (i : PageInfo). i.uptodate) change.here ∙ f.locks.stale page tag has.tagged has.unlocked;
       };
     })

@@ -76,7 +76,8 @@ passed_causes g v w d e cpu file index after h t f k (is_done last eh et) =
 
 -- a page that was found dirty is locked by the processor
 locks_page : (g : GuestState) (w : StorageView) (e : DiskView) (cpu file index page : ℕ) (changed : Bool) (h : GuestState) → Syncs g cpu file index → HasPage g (File file index) page
-    → (info_at (with_change g.parts page changed).pages page).dirty ≡ true → h ≡ with_phase (with_parts g (locked (with_change g.parts page changed) page cpu)) cpu (SyncWrite index page) → SyncMoves g cpu h w e
+    → (info_at (with_change g.parts page changed).pages page).dirty ≡ true → h ≡ with_phase (with_parts g (locked (with_change g.parts page changed) page cpu)) cpu (SyncWrite index page)
+    → SyncMoves g cpu h w e
 unfolding with_phase
 locks_page g w e cpu file index page changed h k has dirty eh =
     sync_moves g cpu file h w e (SyncWrite index page) k.has (phase_after g cpu (Sync file) after (SyncWrite index page) h k.has eh) (
@@ -101,11 +102,13 @@ locks_page g w e cpu file index page changed h k has dirty eh =
     here : info_at h.parts.pages page ≡ locked_info cpu (info_at middle.pages page)
     here = ap (λ (q : GuestState). info_at q.parts.pages page) eh ∙ (change-locked middle page cpu (rw first.size has.below)).here
 
-look_passes : (g : GuestState) (w : StorageView) (e : DiskView) (cpu file index : ℕ) (after : Parts) → Syncs g cpu file index → SyncedAt after w e (File file index) → PassesPage g cpu file index after w e
+look_passes : (g : GuestState) (w : StorageView) (e : DiskView) (cpu file index : ℕ) (after : Parts) → Syncs g cpu file index → SyncedAt after w e (File file index)
+    → PassesPage g cpu file index after w e
 look_passes g w e cpu file index after k synced = record { has = k.has; within = k.within; here = looks-index g cpu index k.looks; synced = synced }
 
 -- the page that was written back is the one that the processor has locked
-written_passes : (g : GuestState) (v w : StorageView) (d e : DiskView) (cpu file index page : ℕ) (bytes : List ℕ) (after : Parts) → Fit g v d → WritesBack g cpu file index page → (v.values page).contents ≡ Bytes bytes
+written_passes : (g : GuestState) (v w : StorageView) (d e : DiskView) (cpu file index page : ℕ) (bytes : List ℕ) (after : Parts) → Fit g v d → WritesBack g cpu file index page
+    → (v.values page).contents ≡ Bytes bytes
     → WrittenBack page (File file index) g.parts.cache bytes v d w e → IsRehinted (cleaned g.parts page) page (v.values page) after (w.values page) → PassesPage g cpu file index after w e
 written_passes g v w d e cpu file index page bytes after f k are written told =
     let its = f.locks.writing cpu index page k.phase in
@@ -119,7 +122,8 @@ written_passes g v w d e cpu file index page bytes after f k are written told =
           (synced_written g v w d e cpu index page bytes after f its are (subst (λ n. WrittenBack page (File n index) g.parts.cache bytes v d w e) (sym same) written) told);
     }
 
-pub sync_causes : (g : GuestState) (v w : StorageView) (d e : DiskView) (cpu file index : ℕ) (h : GuestState) (t : Turn) → Fit g v d → SyncCase g cpu file index v d h t w e → AnswerCause g v d cpu t h w e
+pub sync_causes : (g : GuestState) (v w : StorageView) (d e : DiskView) (cpu file index : ℕ) (h : GuestState) (t : Turn) → Fit g v d → SyncCase g cpu file index v d h t w e
+    → AnswerCause g v d cpu t h w e
 sync_causes g v w d e cpu file index h t f (not_there k none passes ew ee) =
     passed_causes g v w d e cpu file index g.parts h t f (look_passes g w e cpu file index g.parts k (synced_none g.parts w e (File file index) none)) (has_passed g cpu file index g.parts h t passes)
 sync_causes g v w d e cpu file index h t f (sync_waited page owner k locked eh et ew ee) =
@@ -132,10 +136,12 @@ sync_causes g v w d e cpu file index h t f (sync_waited page owner k locked eh e
 sync_causes g v w d e cpu file index h t f (sync_missed why k eh et may misses ee) = rw et (record { tables = inl eh; command = (Sync file, k.has.command) }, ee, misses.risen)
 sync_causes g v w d e cpu file index h t f (sync_gone page found k has back may lost unused passes) =
     let after = handled g.parts page in
-    passed_causes g v w d e cpu file index after h t f (look_passes g w e cpu file index after k (synced_none after w e (File file index) (page_of-handled g.parts page (File file index) has.tagged))) (has_passed g cpu file index after h t passes)
+    passed_causes g v w d e cpu file index after h t f (look_passes g w e cpu file index after k
+    (synced_none after w e (File file index) (page_of-handled g.parts page (File file index) has.tagged))) (has_passed g cpu file index after h t passes)
 sync_causes g v w d e cpu file index h t f (was_clean page found k has back may told unchanged clean passes) =
     passed_causes g v w d e cpu file index g.parts h t f
-    (look_passes g w e cpu file index g.parts k (synced_clean (flat_of g.plan g.journal) g v w d e page (File file index) found f has back may told unchanged clean)) (has_passed g cpu file index g.parts h t passes)
+    (look_passes g w e cpu file index g.parts k (synced_clean (flat_of g.plan g.journal) g v w d e page (File file index) found f has back may told unchanged clean))
+    (has_passed g cpu file index g.parts h t passes)
 sync_causes g v w d e cpu file index h t f (was_locked page found k has back may there dirty value eh et) =
     rw et (moved_phase g cpu (Sync file) _ _ h k.has eh, locks_page g w e cpu file index page found.changed h k has dirty eh)
 sync_causes g v w d e cpu file index h t f (write_missed page why k eh et may misses ee) = rw et (record { tables = inl eh; command = (Sync file, k.has.command) }, ee, misses.risen)

@@ -27,17 +27,17 @@ use Rattle.guest_rules.specs.declared.outcome.Filled.{Filled}
 use Rattle.guest_rules.specs.declared.outcome.Filled.TheVariants.{Done as FilledDone, Again as FilledAgain, Fail as FilledFail}
 use Rattle.guest_rules.specs.declared.outcome.Missed.{Missed}
 use Rattle.guest_rules.specs.declared.outcome.Missed.TheVariants.{Gone as MissedGone, Again as MissedAgain, Fail as MissedFail}
-use Rattle.guest_rules.specs.declared.outcome.Resolved.{Resolved}
-use Rattle.guest_rules.specs.declared.outcome.Resolved.TheVariants.{Mapped, Gone as EntryGone, Again as EntryAgain}
+use Rattle.guest_rules.specs.declared.outcome.Placed.{Placed}
+use Rattle.guest_rules.specs.declared.outcome.Placed.TheVariants.{Done as PlaceDone, Gone as PlaceGone, Again as PlaceAgain}
 use Rattle.guest_rules.specs.declared.outcome.Synced.{Synced}
 use Rattle.guest_rules.specs.declared.outcome.Synced.TheVariants.{Clean, Locked, Gone as SyncGone, Waits as IsLocked, Again as SyncAgain}
 use Rattle.guest_rules.specs.GuestState.{GuestState, processor_at, with_parts, with_phase, entered}
 use Rattle.guest_rules.specs.Rows.{read_page, write_page, load_page, store_through, resolve, fill, pin_page}
 use Rattle.guest_rules.specs.Syncs.{sync_page, write_back}
-use Rattle.guest_rules.specs.Turns.{file_pages, passed, refusal_in, begin_turn, missed_next, read_next, done_next, resolve_next, resolve_in, pin_in, use_turn, hit_turn, start_free, start_locked, start_found, start_tagged, start_at, start_entry, start_mapped, start_placed, map_turn, sync_next, sync_found, sync_turn, written_next, write_back_turn, start_accepted, start_refused, start_turn, fill_next, fill_turn, turn_in, turn_on, turn}
+use Rattle.guest_rules.specs.Turns.{file_pages, passed, refusal_in, begin_turn, missed_next, read_next, done_next, resolve_next, resolve_in, pin_next, pin_in, use_turn, hit_turn, start_free, start_locked, start_found, start_tagged, start_at, start_entry, start_mapped, start_placed, map_turn, sync_next, sync_found, sync_turn, written_next, write_back_turn, start_accepted, start_refused, start_turn, fill_next, fill_turn, turn_in, turn_on, turn}
 use Rattle.guest_rules.specs.Again.{WhyAgain}
 use Rattle.guest_rules.proofs.Causes.Ends.{Ends, ends_bind, ends_map, missed_in}
-use Rattle.guest_rules.proofs.Causes.RowEnds.{MissNames, ResolvedNames, FilledNames, SyncedNames, read_ends, write_ends, load_ends, store_ends, resolve_ends, pin_ends, fill_ends, sync_ends, write_back_ends}
+use Rattle.guest_rules.proofs.Causes.RowEnds.{MissNames, PlacedNames, FilledNames, SyncedNames, read_ends, write_ends, load_ends, store_ends, resolve_ends, pin_ends, fill_ends, sync_ends, write_back_ends}
 
 -- an answer `Again` is that of the call that missed last
 abbrev pub Names : Option Why → Turn → Type 0
@@ -54,11 +54,13 @@ TurnNames last a = Names last a.1
 row_ends : {R : Type 0} (row : Program (Parts × R)) (next : Parts → R → Program (GuestState × Turn)) (RowNames : Option Why → Parts × R → Type 0) → Ends row None RowNames
     → ((last : Option Why) (parts : Parts) (r : R) → RowNames last (parts, r) → Ends (next parts r) last TurnNames) → Ends (bind row (λ went. next went.0 went.1)) None TurnNames
 row_ends row next RowNames h follows =
-    ends_bind row (λ went. next went.0 went.1) None TurnNames (ends_map row None RowNames (λ last went. Ends (next went.0 went.1) last TurnNames) (λ last went names. follows last went.0 went.1 names) h)
+    ends_bind row (λ went. next went.0 went.1) None TurnNames
+    (ends_map row None RowNames (λ last went. Ends (next went.0 went.1) last TurnNames) (λ last went names. follows last went.0 went.1 names) h)
 
 -- ---- what follows a row
 
-missed_ends : (g : GuestState) (cpu : ℕ) (op : Op) (last : Option Why) (parts : Parts) (missed : Missed) → MissNames {R = Unit {0}} last (parts, Err missed) → Ends (missed_next g cpu op parts missed) last TurnNames
+missed_ends : (g : GuestState) (cpu : ℕ) (op : Op) (last : Option Why) (parts : Parts) (missed : Missed) → MissNames {R = Unit {0}} last (parts, Err missed)
+    → Ends (missed_next g cpu op parts missed) last TurnNames
 missed_ends g cpu op last parts MissedGone names = tt
 missed_ends g cpu op last parts (MissedAgain why) names = names
 missed_ends g cpu op last parts (MissedFail cause) names = tt
@@ -69,18 +71,25 @@ other_answer R last parts MissedGone names = tt
 other_answer R last parts (MissedAgain why) names = names
 other_answer R last parts (MissedFail cause) names = tt
 
-read_follows : (g : GuestState) (cpu : ℕ) (op : Op) (last : Option Why) (parts : Parts) (r : Result (List ℕ) Missed) → MissNames {R = List ℕ} last (parts, r) → Ends (read_next g cpu op parts r) last TurnNames
+read_follows : (g : GuestState) (cpu : ℕ) (op : Op) (last : Option Why) (parts : Parts) (r : Result (List ℕ) Missed) → MissNames {R = List ℕ} last (parts, r)
+    → Ends (read_next g cpu op parts r) last TurnNames
 read_follows g cpu op last parts (Ok bytes) names = tt
 read_follows g cpu op last parts (Err missed) names = missed_ends g cpu op last parts missed (other_answer (List ℕ) last parts missed names)
 
-done_follows : (g : GuestState) (cpu : ℕ) (op : Op) (last : Option Why) (parts : Parts) (r : Result Unit Missed) → MissNames {R = Unit {0}} last (parts, r) → Ends (done_next g cpu op parts r) last TurnNames
+done_follows : (g : GuestState) (cpu : ℕ) (op : Op) (last : Option Why) (parts : Parts) (r : Result Unit Missed) → MissNames {R = Unit {0}} last (parts, r)
+    → Ends (done_next g cpu op parts r) last TurnNames
 done_follows g cpu op last parts (Ok u) names = tt
 done_follows g cpu op last parts (Err missed) names = missed_ends g cpu op last parts missed names
 
-resolve_follows : (g : GuestState) (last : Option Why) (parts : Parts) (r : Resolved) → ResolvedNames last (parts, r) → Ends (resolve_next g parts r) last TurnNames
-resolve_follows g last parts Mapped names = tt
-resolve_follows g last parts EntryGone names = tt
-resolve_follows g last parts (EntryAgain why) names = names
+resolve_follows : (g : GuestState) (last : Option Why) (parts : Parts) (r : Placed) → PlacedNames last (parts, r) → Ends (resolve_next g parts r) last TurnNames
+resolve_follows g last parts PlaceDone names = tt
+resolve_follows g last parts PlaceGone names = tt
+resolve_follows g last parts (PlaceAgain why) names = names
+
+pin_follows : (g : GuestState) (cpu : ℕ) (op : Op) (last : Option Why) (parts : Parts) (r : Placed) → PlacedNames last (parts, r) → Ends (pin_next g cpu op parts r) last TurnNames
+pin_follows g cpu op last parts PlaceDone names = tt
+pin_follows g cpu op last parts PlaceGone names = tt
+pin_follows g cpu op last parts (PlaceAgain why) names = names
 
 fill_follows : (g : GuestState) (cpu : ℕ) (op : Op) (last : Option Why) (parts : Parts) (r : Filled) → FilledNames last (parts, r) → Ends (fill_next g cpu op parts r) last TurnNames
 fill_follows g cpu op last parts FilledDone names = tt
@@ -94,12 +103,14 @@ passed_names g cpu op pages index last = of (nat_lt (index + 1) pages)
     of true = tt
     of false = tt
 
-written_follows : (g : GuestState) (cpu : ℕ) (op : Op) (pages index : ℕ) (last : Option Why) (parts : Parts) (r : Filled) → FilledNames last (parts, r) → Ends (written_next g cpu op pages index parts r) last TurnNames
+written_follows : (g : GuestState) (cpu : ℕ) (op : Op) (pages index : ℕ) (last : Option Why) (parts : Parts) (r : Filled) → FilledNames last (parts, r)
+    → Ends (written_next g cpu op pages index parts r) last TurnNames
 written_follows g cpu op pages index last parts FilledDone names = passed_names (with_parts g parts) cpu op pages index last
 written_follows g cpu op pages index last parts (FilledAgain why) names = names
 written_follows g cpu op pages index last parts (FilledFail cause) names = tt
 
-sync_follows : (g : GuestState) (cpu : ℕ) (op : Op) (pages index page : ℕ) (last : Option Why) (parts : Parts) (r : Synced) → SyncedNames last (parts, r) → Ends (sync_next g cpu op pages index page parts r) last TurnNames
+sync_follows : (g : GuestState) (cpu : ℕ) (op : Op) (pages index page : ℕ) (last : Option Why) (parts : Parts) (r : Synced) → SyncedNames last (parts, r)
+    → Ends (sync_next g cpu op pages index page parts r) last TurnNames
 sync_follows g cpu op pages index page last parts Clean names = passed_names (with_parts g parts) cpu op pages index last
 sync_follows g cpu op pages index page last parts SyncGone names = passed_names (with_parts g parts) cpu op pages index last
 sync_follows g cpu op pages index page last parts Locked names = tt
@@ -111,19 +122,20 @@ sync_follows g cpu op pages index page last parts (SyncAgain why) names = names
 resolve_found : (g : GuestState) (page number off : ℕ) (writable : Bool) (process : ℕ) (found : Option ℕ) → Ends (resolve_in g page number off writable process found) None TurnNames
 resolve_found g page number off writable process None = tt
 resolve_found g page number off writable process (Some slot) =
-    row_ends (resolve g.parts page slot (off / PAGE) writable) (resolve_next g) ResolvedNames (resolve_ends g.parts page slot (off / PAGE) writable) (resolve_follows g)
+    row_ends (resolve g.parts page slot (off / PAGE) writable) (resolve_next g) PlacedNames (resolve_ends g.parts page slot (off / PAGE) writable) (resolve_follows g)
 
 pin_found : (g : GuestState) (cpu : ℕ) (op : Op) (page index : ℕ) (pins : Bool) (found : Option ℕ) → Ends (pin_in g cpu op page index pins found) None TurnNames
 pin_found g cpu op page index pins None = tt
 pin_found g cpu op page index pins (Some slot) =
-    row_ends (pin_page g.parts page slot index pins) (done_next g cpu op) (MissNames {R = Unit {0}}) (pin_ends g.parts page slot index pins) (done_follows g cpu op)
+    row_ends (pin_page g.parts page slot index pins) (pin_next g cpu op) PlacedNames (pin_ends g.parts page slot index pins) (pin_follows g cpu op)
 
 use_ends : (g : GuestState) (cpu : ℕ) (op : Op) (page : ℕ) → Ends (use_turn g cpu op page) None TurnNames
 unfolding use_turn
 use_ends g cpu (Read file off len) page =
     row_ends (read_page g.parts page (off % PAGE) len) (read_next g cpu (Read file off len)) (MissNames {R = List ℕ}) (read_ends g.parts page (off % PAGE) len) (read_follows g cpu (Read file off len))
 use_ends g cpu (Write file off bytes) page =
-    row_ends (write_page g.parts page (off % PAGE) bytes) (done_next g cpu (Write file off bytes)) (MissNames {R = Unit {0}}) (write_ends g.parts page (off % PAGE) bytes) (done_follows g cpu (Write file off bytes))
+    row_ends (write_page g.parts page (off % PAGE) bytes) (done_next g cpu (Write file off bytes)) (MissNames {R = Unit {0}}) (write_ends g.parts page (off % PAGE) bytes)
+    (done_follows g cpu (Write file off bytes))
 use_ends g cpu (Sync file) page = tt
 use_ends g cpu (MapFile number file first count writable) page = tt
 use_ends g cpu (MapAnon number count) page = tt
@@ -136,9 +148,11 @@ use_ends g cpu (Unpin number index) page = pin_found g cpu (Unpin number index) 
 hit_ends : (g : GuestState) (cpu : ℕ) (op : Op) (page : ℕ) → Ends (hit_turn g cpu op page) None TurnNames
 unfolding hit_turn
 hit_ends g cpu (Load number off len) page =
-    row_ends (load_page g.parts page (off % PAGE) len) (read_next g cpu (Load number off len)) (MissNames {R = List ℕ}) (load_ends g.parts page (off % PAGE) len) (read_follows g cpu (Load number off len))
+    row_ends (load_page g.parts page (off % PAGE) len) (read_next g cpu (Load number off len)) (MissNames {R = List ℕ}) (load_ends g.parts page (off % PAGE) len)
+    (read_follows g cpu (Load number off len))
 hit_ends g cpu (Store number off bytes) page =
-    row_ends (store_through g.parts page (off % PAGE) bytes) (done_next g cpu (Store number off bytes)) (MissNames {R = Unit {0}}) (store_ends g.parts page (off % PAGE) bytes) (done_follows g cpu (Store number off bytes))
+    row_ends (store_through g.parts page (off % PAGE) bytes) (done_next g cpu (Store number off bytes)) (MissNames {R = Unit {0}}) (store_ends g.parts page (off % PAGE) bytes)
+    (done_follows g cpu (Store number off bytes))
 hit_ends g cpu (Read file off len) page = tt
 hit_ends g cpu (Write file off bytes) page = tt
 hit_ends g cpu (Sync file) page = tt
@@ -214,7 +228,8 @@ sync_turn_ends g cpu (Unpin number at) index = tt
 back_turn_ends : (g : GuestState) (cpu : ℕ) (op : Op) (index page : ℕ) → Ends (write_back_turn g cpu op index page) None TurnNames
 unfolding write_back_turn
 back_turn_ends g cpu (Sync file) index page =
-    row_ends (write_back g.parts page) (written_next g cpu (Sync file) (file_pages g.plan.files file) index) FilledNames (write_back_ends g.parts page) (written_follows g cpu (Sync file) (file_pages g.plan.files file) index)
+    row_ends (write_back g.parts page) (written_next g cpu (Sync file) (file_pages g.plan.files file) index) FilledNames (write_back_ends g.parts page)
+    (written_follows g cpu (Sync file) (file_pages g.plan.files file) index)
 back_turn_ends g cpu (Read file off len) index page = tt
 back_turn_ends g cpu (Write file off bytes) index page = tt
 back_turn_ends g cpu (MapFile number file first count writable) index page = tt

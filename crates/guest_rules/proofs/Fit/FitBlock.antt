@@ -10,7 +10,7 @@ use Rattle.essa_state.specs.PageValue.{Bytes}
 use Rattle.cmm_storage.specs.StorageView.{StorageView}
 use Rattle.guest_pages.specs.PagesView.{info_at}
 use Rattle.guest_cache.specs.CacheView.{CacheView, IsTag, pages_before, page_of, swap_slot, swap_block, backing_of}
-use Rattle.guest_cache.specs.CacheLaws.{before_all, place_exact, backing_of-below}
+use Rattle.guest_cache.specs.Laws.CacheLaws.{before_all, place_exact, backing_of-below}
 use Rattle.guest_rules.specs.GuestState.{GuestState}
 use Rattle.guest_rules.specs.Fit.{FitAt, backing, backed, block_bytes, current, current_at, current_bytes}
 use Rattle.guest_rules.proofs.Kept.Changes.{cases_tag}
@@ -30,7 +30,8 @@ backing-here : (cache : CacheView) (d e : DiskView) (file index block : ℕ) (by
 backing-here cache d e file index block bytes k = ap (backed e.blocks) k.backs ∙ ap (λ o. block_bytes o block) k.now ∙ get_or-set_same k.blocks block bytes [] k.within
 
 -- no other tag has the block
-backing-elsewhere : (cache : CacheView) (d e : DiskView) (file index block : ℕ) (bytes : List ℕ) (t : Tag) → IsWritten cache d e file index block bytes → IsTag cache t → t ≢ File file index → backing cache e t ≡ backing cache d t
+backing-elsewhere : (cache : CacheView) (d e : DiskView) (file index block : ℕ) (bytes : List ℕ) (t : Tag) → IsWritten cache d e file index block bytes → IsTag cache t → t ≢ File file index
+    → backing cache e t ≡ backing cache d t
 backing-elsewhere cache d e file index block bytes (File i j) k is other =
     let mine : pages_before cache.files file + index ≡ block = (let both : Some (pages_before cache.files file + index) ≡ Some block = k.backs in cc) in
     ap (λ o. block_bytes o (pages_before cache.files i + j)) k.now
@@ -73,11 +74,13 @@ is_written state g v d e page file index block bytes f k =
     }
 
 -- what backs the tag from now on
-pub backing-written : (state : FlatState) (g : GuestState) (v : StorageView) (d e : DiskView) (page file index block : ℕ) (bytes : List ℕ) → FitAt state g v d → WritesBytes g v d e page file index block bytes
+pub backing-written : (state : FlatState) (g : GuestState) (v : StorageView) (d e : DiskView) (page file index block : ℕ) (bytes : List ℕ) → FitAt state g v d
+    → WritesBytes g v d e page file index block bytes
     → backing g.parts.cache e (File file index) ≡ bytes
 backing-written state g v d e page file index block bytes f k = backing-here g.parts.cache d e file index block bytes (is_written state g v d e page file index block bytes f k)
 
-pub FitAt-block : (state : FlatState) (g : GuestState) (v : StorageView) (d e : DiskView) (page file index block : ℕ) (bytes : List ℕ) → FitAt state g v d → WritesBytes g v d e page file index block bytes → FitAt state g v e
+pub FitAt-block : (state : FlatState) (g : GuestState) (v : StorageView) (d e : DiskView) (page file index block : ℕ) (bytes : List ℕ) → FitAt state g v d
+    → WritesBytes g v d e page file index block bytes → FitAt state g v e
 FitAt-block state g v d e page file index block bytes f k = record {
   sizes = record {
     range = f.sizes.range;
@@ -100,7 +103,8 @@ FitAt-block state g v d e page file index block bytes f k = record {
   contents = record {
     tells = f.contents.tells;
     told = (set written.blocks block bytes, written.now);
-    blocks = subst (λ n. AreBlocks n e.blocks) (sym k.count) (subst (λ o. AreBlocks d.count o) (sym written.now) (length-set written.blocks block bytes ∙ are.0, All-set (λ b. length b ≡ PAGE) written.blocks block bytes whole are.1));
+    blocks = subst (λ n. AreBlocks n e.blocks) (sym k.count)
+        (subst (λ o. AreBlocks d.count o) (sym written.now) (length-set written.blocks block bytes ∙ are.0, All-set (λ b. length b ≡ PAGE) written.blocks block bytes whole are.1));
     not_blank = f.contents.not_blank;
     same = λ i t below tagged fresh clean unchanged there. elim (cases_tag t (File file index)) [
       | inl z ↦

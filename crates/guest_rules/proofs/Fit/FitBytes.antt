@@ -5,12 +5,12 @@ use Rattle.cmm_types.specs.declared.page.Usage.{Usage}
 use Rattle.cmm_types.specs.declared.page.Tag.{Tag}
 use Rattle.cmm_types.specs.declared.page.Tag.TheVariants.{File}
 use Rattle.cmm_io.specs.DiskView.{DiskView}
-use Rattle.cmm_flat.specs.Bytes.{with_bytes}
+use Rattle.cmm_types.specs.Bytes.{with_bytes}
 use Rattle.cmm_flat.specs.State.{FlatState}
 use Rattle.cmm_flat.specs.Flat.{with_file_bytes}
-use Rattle.cmm_flat.specs.FlatLaws.{lengths-with_file_bytes}
+use Rattle.cmm_flat.specs.Laws.FlatLaws.{lengths-with_file_bytes}
 use Rattle.essa_state.specs.PageValue.{PageValue, Bytes}
-use Rattle.cmm_storage.specs.StorageView.{StorageView, write_at}
+use Rattle.cmm_storage.specs.StorageView.{StorageView}
 use Rattle.guest_pages.specs.declared.info.PageInfo.{PageInfo}
 use Rattle.guest_pages.specs.PagesView.{info_at}
 use Rattle.guest_cache.specs.CacheView.{CacheView, page_of}
@@ -42,9 +42,10 @@ pub record ChangesBytes (state : FlatState) (g : GuestState) (v : StorageView) (
   pub its : IsFound g v page tag found all
 
 -- the page has the bytes that the flat file has, and every other tag its own
-FlatFit-bytes : (state : FlatState) (g : GuestState) (v : StorageView) (d : DiskView) (w : StorageView) (e : DiskView) (file first off : ℕ) (bytes : List ℕ) (page : ℕ) (tag : Tag) (found : PageValue) (all : List ℕ) (after : Parts) → FitAt state g v d
+FlatFit-bytes : (state : FlatState) (g : GuestState) (v : StorageView) (d : DiskView) (w : StorageView) (e : DiskView) (file first off : ℕ) (bytes : List ℕ) (page : ℕ) (tag : Tag)
+    (found : PageValue) (all : List ℕ) (after : Parts) → FitAt state g v d
     → ChangesBytes state g v file first off bytes page tag found all → after.cache ≡ g.parts.cache → (info_at after.pages page).uptodate ≡ true → SameCurrent g.parts v d after w e page
-    → (w.values page).contents ≡ Bytes (write_at all (off % PAGE) bytes) → FlatFit (with_file_bytes state file (PAGE * first + off) bytes) (with_parts g after) w e
+    → (w.values page).contents ≡ Bytes (with_bytes all (off % PAGE) bytes) → FlatFit (with_file_bytes state file (PAGE * first + off) bytes) (with_parts g after) w e
 FlatFit-bytes state g v d w e file first off bytes page tag found all after f k cache uptodate same contents = record {
   lengths = lengths-with_file_bytes state.files file (PAGE * first + off) bytes k.write.within ∙ f.flat.lengths;
   pages = λ i j is_now.
@@ -53,10 +54,13 @@ FlatFit-bytes state g v d w e file first off bytes page tag found all after f k 
         | inl z ↦
             let file_is : i ≡ file = cc in
             let index_is : j ≡ first + off / PAGE = cc in
-            rw (file_is, index_is) (stored-here state.files file first off bytes all k.write (found-bytes state g v d page tag found all file (first + off / PAGE) f k.its k.is) ∙ sym (ap (current after w e) (sym k.is) ∙ here))
+            rw (file_is, index_is) (stored-here state.files file first off bytes all k.write (found-bytes state g v d page tag found all file (first + off / PAGE) f k.its k.is)
+            ∙ sym (ap (current after w e) (sym k.is) ∙ here))
         | inr n ↦
             stored-elsewhere state.files file first off i j bytes k.write n ∙ f.flat.pages i j is
-            ∙ sym (current-other g.parts after v w d e page (File i j) same is (λ q. n (let both : Some (File i j) ≡ Some tag = sym (f.pages.found page (File i j) is q).1 ∙ k.its.tagged in let tags : File i j ≡ tag = cc in tags ∙ k.is)) (ap (λ (c : CacheView). page_of c (File i j)) cache))
+            ∙ sym (current-other g.parts after v w d e page (File i j) same is
+            (λ q. n (let both : Some (File i j) ≡ Some tag = sym (f.pages.found page (File i j) is q).1 ∙ k.its.tagged in let tags : File i j ≡ tag = cc in tags ∙ k.is))
+            (ap (λ (c : CacheView). page_of c (File i j)) cache))
       ];
 }
   where
@@ -67,13 +71,17 @@ FlatFit-bytes state g v d w e file first off bytes page tag found all after f k 
         ∙ ap (λ c. current_bytes true c (backing after.cache e tag)) contents
 
 -- the guest fits the state after the change, whether the page is dirty from then on or its change bit tells
-pub FitAt-bytes : (state : FlatState) (g : GuestState) (v : StorageView) (d : DiskView) (w : StorageView) (e : DiskView) (file first off : ℕ) (bytes : List ℕ) (page : ℕ) (tag : Tag) (found : PageValue) (all : List ℕ) (usage : Usage) (changed dirties : Bool)
-    → FitAt state g v d → ChangesBytes state g v file first off bytes page tag found all → GivenBack page v d w e → w.values page ≡ record found { usage = usage; changed = changed; contents = Bytes (write_at all (off % PAGE) bytes) }
-    → PageFits g.parts.cache d (changed_info dirties (info_at g.parts.pages page)) (w.values page) → FitAt (with_file_bytes state file (PAGE * first + off) bytes) (with_parts g (with_change g.parts page dirties)) w e
+pub FitAt-bytes : (state : FlatState) (g : GuestState) (v : StorageView) (d : DiskView) (w : StorageView) (e : DiskView) (file first off : ℕ) (bytes : List ℕ) (page : ℕ) (tag : Tag)
+    (found : PageValue) (all : List ℕ) (usage : Usage) (changed dirties : Bool)
+    → FitAt state g v d → ChangesBytes state g v file first off bytes page tag found all → GivenBack page v d w e
+    → w.values page ≡ record found { usage = usage; changed = changed; contents = Bytes (with_bytes all (off % PAGE) bytes) }
+    → PageFits g.parts.cache d (changed_info dirties (info_at g.parts.pages page)) (w.values page)
+    → FitAt (with_file_bytes state file (PAGE * first + off) bytes) (with_parts g (with_change g.parts page dirties)) w e
 FitAt-bytes state g v d w e file first off bytes page tag found all usage changed dirties f k back value fits =
     FitAt-step state later g v d h w e 0 page 0 (processor_at g 0).phase new f step
     (PagesFit-kept g.parts after page new tag f.pages k.its.tagged (is.tag ∙ k.its.tagged) only.free change only.cache)
-    (SlotsFit-kept state later g.parts after f.slots refl (ap (λ m. m.slots) maps) (ap (λ m. length m.entries) maps) (ap (λ m. m.pinned) maps) (ap (λ m. m.pages) maps) change.size (ap (λ (c : CacheView). c.files) only.cache))
+    (SlotsFit-kept state later g.parts after f.slots refl (ap (λ m. m.slots) maps) (ap (λ m. length m.entries) maps) (ap (λ m. m.pinned) maps) (ap (λ m. m.pages) maps) change.size
+    (ap (λ (c : CacheView). c.files) only.cache))
     (EntriesFit-info g.parts after page new f.entries change maps (λ t t_is u. (is.tag ∙ t_is, is.uptodate ∙ u)) is.writers)
     (LocksFit-kept g h page new f.locks refl refl change is.tag is.owner is.uptodate (λ u. let bad : true ≡ false = sym k.its.uptodate ∙ sym is.uptodate ∙ u in cc))
     (FlatFit-bytes state g v d w e file first off bytes page tag found all after f k only.cache (ap (λ (i : PageInfo). i.uptodate) change.here ∙ is.uptodate ∙ k.its.uptodate)
@@ -119,6 +127,7 @@ FitAt-bytes state g v d w e file first off bytes page tag found all usage change
       index = ap (λ (c : CacheView). length c.index) only.cache;
       info_change = change;
       phase_change = change-nothing g.processors 0 (processor_at g 0).phase refl;
-      pins = PinsStand-info g.parts after page new (standing g.parts f.pins) change only.cache (record { slots = ap (λ m. m.slots) maps; pinned = ap (λ m. m.pinned) maps }) is.tag is.pins (λ u. is.uptodate ∙ u);
+      pins = PinsStand-info g.parts after page new (standing g.parts f.pins) change only.cache (record { slots = ap (λ m. m.slots) maps; pinned = ap (λ m. m.pinned) maps }) is.tag is.pins
+          (λ u. is.uptodate ∙ u);
       fits = fits;
     }

@@ -55,13 +55,16 @@ pub record FaultStep (more : ℕ) (g : GuestState) (v : StorageView) (h : GuestS
   pub handled : h.parts.faults ≤ g.parts.faults + more
   pub counted : (v.values page).count + one_if_lost (w.values page) + more ≤ (w.values page).count + one_if_lost (v.values page)
 
-FaultsFit-step : (g h : GuestState) (v w : StorageView) (more page : ℕ) → FaultsFit g.parts v → w.pages ≡ v.pages → page < v.pages → ((i : ℕ) → i ≢ page → MayBecome (v.values i) (w.values i)) → FaultStep more g v h w page → FaultsFit h.parts w
+FaultsFit-step : (g h : GuestState) (v w : StorageView) (more page : ℕ) → FaultsFit g.parts v → w.pages ≡ v.pages → page < v.pages → ((i : ℕ) → i ≢ page → MayBecome (v.values i) (w.values i))
+    → FaultStep more g v h w page → FaultsFit h.parts w
 FaultsFit-step g h v w more page f pages below others step =
-    let sums = sum_below-more (λ i. (v.values i).count) (λ i. one_if_lost (w.values i)) (λ i. (w.values i).count) (λ i. one_if_lost (v.values i)) more page v.pages below (λ i _ n. may-faults (v.values i) (w.values i) (others i n)) step.counted in
+    let sums = sum_below-more (λ i. (v.values i).count) (λ i. one_if_lost (w.values i)) (λ i. (w.values i).count) (λ i. one_if_lost (v.values i)) more page v.pages below
+    (λ i _ n. may-faults (v.values i) (w.values i) (others i n)) step.counted in
     rw pages (omega (arith, sums, step.handled, f))
 
 -- what fit of the guest before gives of its pages, and what the step keeps of their bytes
-pub step-same : (state : FlatState) (g : GuestState) (v : StorageView) (d : DiskView) (h : GuestState) (w : StorageView) (e : DiskView) (cpu page : ℕ) (phase : Phase) (info : PageInfo) → FitAt state g v d
+pub step-same : (state : FlatState) (g : GuestState) (v : StorageView) (d : DiskView) (h : GuestState) (w : StorageView) (e : DiskView) (cpu page : ℕ) (phase : Phase) (info : PageInfo)
+    → FitAt state g v d
     → TableStep g v d h w e cpu page phase info → SameCurrent g.parts v d h.parts w e page
 step-same state g v d h w e cpu page phase info f step = record {
   fits = EachPageFits-from g.parts v d (infos-pages g v d f.sizes) f.pins f.hints f.contents;
@@ -73,7 +76,8 @@ step-same state g v d h w e cpu page phase info f step = record {
   values = step.back.keeps.others;
 }
 
-pub FitAt-step : (state later : FlatState) (g : GuestState) (v : StorageView) (d : DiskView) (h : GuestState) (w : StorageView) (e : DiskView) (cpu page more : ℕ) (phase : Phase) (info : PageInfo) → FitAt state g v d
+pub FitAt-step : (state later : FlatState) (g : GuestState) (v : StorageView) (d : DiskView) (h : GuestState) (w : StorageView) (e : DiskView) (cpu page more : ℕ) (phase : Phase)
+    (info : PageInfo) → FitAt state g v d
     → TableStep g v d h w e cpu page phase info → PagesFit h.parts → SlotsFit later h.parts → EntriesFit h.parts → LocksFit h → FlatFit later h w e → FaultStep more g v h w page → FitAt later h w e
 FitAt-step state later g v d h w e cpu page more phase info f step pages slots entries locks flat faults = record {
   sizes = record {
@@ -94,7 +98,8 @@ FitAt-step state later g v d h w e cpu page more phase info f step pages slots e
   pins = PinsFit-from h.parts w e step.pins fits;
   locks = locks;
   hints = HintsFit-from h.parts w e step.back.held fits;
-  contents = ContentsFit-from h.parts w e (step.back.keeps.tells ∙ f.contents.tells) f.contents.told.0 (step.back.blocks ∙ f.contents.told.1) (rw (step.back.count, step.back.blocks) f.contents.blocks) fits;
+  contents = ContentsFit-from h.parts w e (step.back.keeps.tells ∙ f.contents.tells) f.contents.told.0 (step.back.blocks ∙ f.contents.told.1)
+      (rw (step.back.count, step.back.blocks) f.contents.blocks) fits;
   flat = flat;
   journal = JournalFit-phase g h cpu phase f.journal step.plan step.journal step.phase_change;
   faults = FaultsFit-step g h v w more page f.faults step.back.keeps.pages step.below step.back.keeps.others faults;

@@ -41,7 +41,12 @@ FitAt-may state g v d w e f may = record {
   contents = ContentsFit-from g.parts w e (may.tells ∙ f.contents.tells) f.contents.told.0 (may.blocks ∙ f.contents.told.1) (rw (may.count, may.blocks) f.contents.blocks) fits;
   flat = record { lengths = f.flat.lengths; pages = λ file index is. f.flat.pages file index is ∙ sym (same (File file index) is) };
   journal = f.journal;
-  faults = rw may.pages (omega (arith, sum_below-le (λ i. (v.values i).count) (λ i. one_if_lost (w.values i)) (λ i. (w.values i).count) (λ i. one_if_lost (v.values i)) v.pages (λ i lt. may-faults (v.values i) (w.values i) (may.values i lt)), f.faults));
+  faults = rw may.pages (omega (
+    arith,
+    sum_below-le (λ i. (v.values i).count) (λ i. one_if_lost (w.values i)) (λ i. (w.values i).count) (λ i. one_if_lost (v.values i)) v.pages
+        (λ i lt. may-faults (v.values i) (w.values i) (may.values i lt)),
+    f.faults,
+  ));
 }
   where
     size : length g.parts.pages.infos ≡ v.pages

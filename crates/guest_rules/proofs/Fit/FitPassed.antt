@@ -10,13 +10,13 @@ use Rattle.cmm_types.specs.declared.turn.Turn.{Turn}
 use Rattle.cmm_io.specs.DiskView.{DiskView}
 use Rattle.cmm_flat.specs.State.{FlatState}
 use Rattle.cmm_flat.specs.Legal.{process_of, flat_of}
-use Rattle.cmm_flat.specs.StepLaws.{step_done}
+use Rattle.cmm_flat.specs.Laws.StepLaws.{step_done}
 use Rattle.cmm_storage.specs.StorageView.{StorageView}
 use Rattle.guest_rules.specs.declared.parts.Parts.{Parts}
 use Rattle.guest_rules.specs.declared.processor.Phase.{Phase}
 use Rattle.guest_rules.specs.declared.processor.Phase.TheVariants.{Start, Sync as AtSync}
 use Rattle.guest_rules.specs.declared.processor.Processor.{Processor}
-use Rattle.guest_rules.specs.GuestState.{GuestState, at_start, processor_at, with_parts, with_phase, entered}
+use Rattle.guest_rules.specs.GuestState.{GuestState, first_processor, processor_at, with_parts, with_phase, entered}
 use Rattle.guest_rules.specs.Turns.{file_pages}
 use Rattle.guest_rules.specs.Fit.{IsSyncing, HasLocked, FitAt, Fit}
 use Rattle.guest_rules.proofs.Cases.TurnCases.{Has}
@@ -29,21 +29,22 @@ use Rattle.guest_rules.proofs.Cases.Passed.{HasPassed, goes_on, is_done}
 -- an entry leaves its processor in phase Start, whatever it did before
 pub entered-start : (g : GuestState) (cpu : ℕ) (op : Op) (reply : Reply) → cpu < length g.processors → entered (with_phase g cpu Start) cpu op reply ≡ entered g cpu op reply
 unfolding entered with_phase
-entered-start g cpu op reply below = rw (get_or-set_same g.processors cpu (record { place = (processor_at g cpu).place; phase = Start }) at_start below, set-set) refl
+entered-start g cpu op reply below = rw (get_or-set_same g.processors cpu (record { place = (processor_at g cpu).place; phase = Start }) first_processor below, set-set) refl
 
 pub start-has : (g : GuestState) (cpu : ℕ) (op : Op) → Has g cpu op → Has (with_phase g cpu Start) cpu op
 unfolding with_phase
 start-has g cpu op has = record {
   below = rw length-set has.below;
-  command = rw (get_or-set_same g.processors cpu (record { place = (processor_at g cpu).place; phase = Start }) at_start has.below) has.command;
+  command = rw (get_or-set_same g.processors cpu (record { place = (processor_at g cpu).place; phase = Start }) first_processor has.below) has.command;
 }
 
 pub start-phase : (g : GuestState) (cpu : ℕ) → cpu < length g.processors → (processor_at (with_phase g cpu Start) cpu).phase ≡ Start
 unfolding with_phase
-start-phase g cpu below = ap (λ (p : Processor). p.phase) (get_or-set_same g.processors cpu (record { place = (processor_at g cpu).place; phase = Start }) at_start below)
+start-phase g cpu below = ap (λ (p : Processor). p.phase) (get_or-set_same g.processors cpu (record { place = (processor_at g cpu).place; phase = Start }) first_processor below)
 
 -- a processor that has no page locked is in another phase, in which it has none
-pub FitAt-phase : (state : FlatState) (g : GuestState) (v : StorageView) (d : DiskView) (cpu : ℕ) (phase : Phase) → FitAt state g v d → cpu < length g.processors → ((i : ℕ) → HasLocked g cpu i → ⊥) → LocksNone phase
+pub FitAt-phase : (state : FlatState) (g : GuestState) (v : StorageView) (d : DiskView) (cpu : ℕ) (phase : Phase) → FitAt state g v d → cpu < length g.processors
+    → ((i : ℕ) → HasLocked g cpu i → ⊥) → LocksNone phase
     → PhaseFits (with_phase g cpu phase) cpu phase → FitAt state (with_phase g cpu phase) v d
 unfolding with_phase
 FitAt-phase state g v d cpu phase f below own none now = record {
@@ -63,8 +64,9 @@ FitAt-phase state g v d cpu phase f below own none now = record {
   slots = f.slots;
   entries = f.entries;
   pins = f.pins;
-  locks = LocksFit-passed g (with_phase g cpu phase) cpu phase f.locks refl refl (length-set g.processors cpu new) (ap (λ (p : Processor). p.phase) (get_or-set_same g.processors cpu new at_start below))
-      (λ q n. get_or-set_other g.processors cpu q new at_start n) own none now;
+  locks = LocksFit-passed g (with_phase g cpu phase) cpu phase f.locks refl refl (length-set g.processors cpu new)
+      (ap (λ (p : Processor). p.phase) (get_or-set_same g.processors cpu new first_processor below))
+      (λ q n. get_or-set_other g.processors cpu q new first_processor n) own none now;
   hints = f.hints;
   contents = f.contents;
   flat = record { lengths = f.flat.lengths; pages = f.flat.pages };
@@ -76,11 +78,12 @@ FitAt-phase state g v d cpu phase f below own none now = record {
     new = record { place = (processor_at g cpu).place; phase = phase }
 
 -- a sync stays where it is in its file, whatever phase and tables are set; it may also be at another page of the file
-pub syncing-at : (g : GuestState) (cpu file index next : ℕ) (after : Parts) (phase : Phase) → IsSyncing g cpu file index → next < file_pages g.plan.files file → IsSyncing (with_phase (with_parts g after) cpu phase) cpu file next
+pub syncing-at : (g : GuestState) (cpu file index next : ℕ) (after : Parts) (phase : Phase) → IsSyncing g cpu file index → next < file_pages g.plan.files file
+    → IsSyncing (with_phase (with_parts g after) cpu phase) cpu file next
 unfolding with_phase
 syncing-at g cpu file index next after phase k within = record {
   cpu_below = rw length-set k.cpu_below;
-  command = rw (get_or-set_same g.processors cpu (record { place = (processor_at g cpu).place; phase = phase }) at_start k.cpu_below) k.command;
+  command = rw (get_or-set_same g.processors cpu (record { place = (processor_at g cpu).place; phase = phase }) first_processor k.cpu_below) k.command;
   file_below = k.file_below;
   within = within;
 }
@@ -89,7 +92,8 @@ accepted_file : (file files : ℕ) → file < files → (if nat_lt file files th
 accepted_file file files below = rw (lt-ltb file files below) refl
 
 -- a sync that has no page locked passes a page of its file
-pub Fit-passed : (g : GuestState) (v : StorageView) (d : DiskView) (h : GuestState) (cpu file index : ℕ) (t : Turn) → Fit g v d → IsSyncing g cpu file index → ((i : ℕ) → HasLocked g cpu i → ⊥) → HasPassed g cpu file index g.parts h t → Fit h v d
+pub Fit-passed : (g : GuestState) (v : StorageView) (d : DiskView) (h : GuestState) (cpu file index : ℕ) (t : Turn) → Fit g v d → IsSyncing g cpu file index → ((i : ℕ) → HasLocked g cpu i → ⊥)
+    → HasPassed g cpu file index g.parts h t → Fit h v d
 unfolding with_phase
 Fit-passed g v d h cpu file index t f k own (goes_on more eh et) =
     rw eh (FitAt-phase (flat_of g.plan g.journal) g v d cpu (AtSync (index + 1)) f k.cpu_below own tt (file, syncing-at g cpu file index (index + 1) g.parts (AtSync (index + 1)) k more))

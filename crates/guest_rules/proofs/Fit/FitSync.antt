@@ -9,7 +9,7 @@ use Rattle.cmm_flat.specs.Legal.{flat_of}
 use Rattle.cmm_storage.specs.StorageView.{StorageView}
 use Rattle.guest_rules.specs.declared.parts.Parts.{Parts}
 use Rattle.guest_rules.specs.declared.processor.Phase.TheVariants.{Start}
-use Rattle.guest_rules.specs.GuestState.{GuestState, at_start, processor_at, with_parts, with_phase}
+use Rattle.guest_rules.specs.GuestState.{GuestState, first_processor, processor_at, with_parts, with_phase}
 use Rattle.guest_rules.specs.Rows.{handled}
 use Rattle.guest_rules.specs.Fit.{IsSyncing, Fit}
 use Rattle.guest_rules.proofs.Cases.TurnCases.{SyncCase, not_there, sync_waited, sync_missed, sync_gone, was_clean, was_locked, write_missed, was_written_back, write_failed}
@@ -27,10 +27,11 @@ syncing-with : (g : GuestState) (cpu file index : ℕ) (after : Parts) → IsSyn
 syncing-with g cpu file index after k = record { cpu_below = k.cpu_below; command = k.command; file_below = k.file_below; within = k.within }
 
 -- a sync passes its page as well from phase Start
-passed-start : (g : GuestState) (cpu file index : ℕ) (after : Parts) (h : GuestState) (t : Turn) → cpu < length g.processors → HasPassed g cpu file index after h t → HasPassed (with_phase (with_parts g after) cpu Start) cpu file index after h t
+passed-start : (g : GuestState) (cpu file index : ℕ) (after : Parts) (h : GuestState) (t : Turn) → cpu < length g.processors → HasPassed g cpu file index after h t
+    → HasPassed (with_phase (with_parts g after) cpu Start) cpu file index after h t
 unfolding with_phase
 passed-start g cpu file index after h t below (goes_on more eh et) =
-    goes_on more (eh ∙ sym (rw (get_or-set_same g.processors cpu (record { place = (processor_at g cpu).place; phase = Start }) at_start below, set-set) refl)) et
+    goes_on more (eh ∙ sym (rw (get_or-set_same g.processors cpu (record { place = (processor_at g cpu).place; phase = Start }) first_processor below, set-set) refl)) et
 passed-start g cpu file index after h t below (is_done last eh et) = is_done last (eh ∙ sym (entered-start (with_parts g after) cpu (Sync file) Done below)) et
 
 -- the tables are those that it has already
@@ -38,18 +39,23 @@ passed-with : (g : GuestState) (cpu file index : ℕ) (after : Parts) (h : Guest
 passed-with g cpu file index after h t (goes_on more eh et) = goes_on more eh et
 passed-with g cpu file index after h t (is_done last eh et) = is_done last eh et
 
-pub Fit-sync : (g : GuestState) (v : StorageView) (d : DiskView) (h : GuestState) (w : StorageView) (e : DiskView) (cpu file index : ℕ) (t : Turn) → Fit g v d → SyncCase g cpu file index v d h t w e → Fit h w e
+pub Fit-sync : (g : GuestState) (v : StorageView) (d : DiskView) (h : GuestState) (w : StorageView) (e : DiskView) (cpu file index : ℕ) (t : Turn) → Fit g v d
+    → SyncCase g cpu file index v d h t w e → Fit h w e
 unfolding with_phase
-Fit-sync g v d h w e cpu file index t f (not_there s none passes ew ee) = rw (ew, ee) (Fit-passed g v d h cpu file index t f (syncs-at g cpu file index s) (syncs-none g cpu file index s) (has_passed g cpu file index g.parts h t passes))
+Fit-sync g v d h w e cpu file index t f (not_there s none passes ew ee) =
+    rw (ew, ee) (Fit-passed g v d h cpu file index t f (syncs-at g cpu file index s) (syncs-none g cpu file index s) (has_passed g cpu file index g.parts h t passes))
 Fit-sync g v d h w e cpu file index t f (sync_waited page owner s locked eh et ew ee) = rw (eh, ew, ee) f
 Fit-sync g v d h w e cpu file index t f (sync_missed why s eh et may risen ee) = rw eh (FitAt-may (flat_of g.plan g.journal) g v d w e f may)
 Fit-sync g v d h w e cpu file index t f (sync_gone page found s has back may lost unused passes) =
     Fit-passed (with_parts g (handled g.parts page)) w e h cpu file index t (Fit-gone (flat_of g.plan g.journal) g v d w e (File file index) page found f has back may lost unused)
-    (syncing-with g cpu file index (handled g.parts page) (syncs-at g cpu file index s)) (syncs-none g cpu file index s) (passed-with g cpu file index (handled g.parts page) h t (has_passed g cpu file index (handled g.parts page) h t passes))
+    (syncing-with g cpu file index (handled g.parts page) (syncs-at g cpu file index s)) (syncs-none g cpu file index s)
+    (passed-with g cpu file index (handled g.parts page) h t (has_passed g cpu file index (handled g.parts page) h t passes))
 Fit-sync g v d h w e cpu file index t f (was_clean page found s has back may told unchanged clean passes) =
-    Fit-passed g w e h cpu file index t (Fit-rehinted (flat_of g.plan g.journal) g v d w e page (File file index) found g.parts f has back may told) (syncs-at g cpu file index s) (syncs-none g cpu file index s)
+    Fit-passed g w e h cpu file index t (Fit-rehinted (flat_of g.plan g.journal) g v d w e page (File file index) found g.parts f has back may told) (syncs-at g cpu file index s)
+    (syncs-none g cpu file index s)
     (has_passed g cpu file index g.parts h t passes)
-Fit-sync g v d h w e cpu file index t f (was_locked page found s has back may there dirty value eh et) = rw eh (Fit-locked (flat_of g.plan g.journal) g v d w e cpu file index page found f s has back may there dirty value)
+Fit-sync g v d h w e cpu file index t f (was_locked page found s has back may there dirty value eh et) =
+    rw eh (Fit-locked (flat_of g.plan g.journal) g v d w e cpu file index page found f s has back may there dirty value)
 Fit-sync g v d h w e cpu file index t f (write_missed page why k eh et may risen ee) = rw eh (FitAt-may (flat_of g.plan g.journal) g v d w e f may)
 Fit-sync g v d h w e cpu file index t f (was_written_back page bytes after k are wrote told passes) =
     let at = (writes-at g cpu file index page f.locks k).0 in
@@ -60,4 +66,5 @@ Fit-sync g v d h w e cpu file index t f (write_failed page cause after k back to
     let now = with_phase (with_parts g after) cpu Start in
     let has = start-has (with_parts g after) cpu (Sync file) (record { below = k.has.below; command = k.has.command }) in
     rw eh (subst (λ (q : GuestState). Fit q w e) (entered-start (with_parts g after) cpu (Sync file) (Fail cause) k.has.below)
-    (Fit-fails now v d w e w e cpu (Sync file) cause (Fit-not_written (flat_of g.plan g.journal) g v d w e cpu file index page after f k back told) has tt (start-phase (with_parts g after) cpu k.has.below) risen))
+    (Fit-fails now v d w e w e cpu (Sync file) cause (Fit-not_written (flat_of g.plan g.journal) g v d w e cpu file index page after f k back told) has tt
+    (start-phase (with_parts g after) cpu k.has.below) risen))

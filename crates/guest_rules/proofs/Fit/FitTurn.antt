@@ -15,7 +15,8 @@ use Rattle.guest_rules.specs.GuestState.{GuestState, processor_at, with_parts, w
 use Rattle.guest_rules.specs.Rows.{freed}
 use Rattle.guest_rules.specs.Turns.{begun}
 use Rattle.guest_rules.specs.Fit.{Fit, NeedsPage}
-use Rattle.guest_rules.proofs.Cases.TurnCases.{GivenBack, Has, Maps, FillCause, TurnCase, was_idle, was_refused, was_mapped, waited, missed, missed_rehinted, was_begun, was_gone, was_read, was_written, touch_failed, was_resolved, was_loaded, was_stored, entry_failed, fill_failed, was_filled, was_pinned, was_sync}
+use Rattle.guest_rules.specs.Answers.{FailCause}
+use Rattle.guest_rules.proofs.Cases.TurnCases.{GivenBack, Has, Maps, TurnCase, was_idle, was_refused, was_mapped, waited, missed, missed_rehinted, was_begun, was_gone, was_read, was_written, touch_failed, was_resolved, was_loaded, was_stored, entry_failed, fill_failed, was_filled, was_pinned, was_sync}
 use Rattle.guest_rules.proofs.Fit.FitMay.{FitAt-may}
 use Rattle.guest_rules.proofs.Fit.StepBegun.{Fit-begun}
 use Rattle.guest_rules.proofs.Fit.StepFreed.{Fit-gone, Fit-given_up}
@@ -32,8 +33,9 @@ use Rattle.guest_rules.proofs.Fit.FitPassed.{entered-start, start-has, start-pha
 use Rattle.guest_rules.proofs.Fit.FitSync.{Fit-sync}
 
 -- a page couldn't be filled: it is freed, and the command fails
-Fit-fill_failed : (g : GuestState) (v : StorageView) (d : DiskView) (w : StorageView) (e : DiskView) (cpu : ℕ) (op : Op) (page : ℕ) (cause : Cause) → Fit g v d → Has g cpu op → (processor_at g cpu).phase ≡ Fill page
-    → GivenBack page v d w e → IsMadeUnused (v.values page) (w.values page) → FillCause cause v d w e → Fit (entered (with_parts g (freed g.parts page)) cpu op (Fail cause)) w e
+Fit-fill_failed : (g : GuestState) (v : StorageView) (d : DiskView) (w : StorageView) (e : DiskView) (cpu : ℕ) (op : Op) (page : ℕ) (cause : Cause) → Fit g v d → Has g cpu op
+    → (processor_at g cpu).phase ≡ Fill page
+    → GivenBack page v d w e → IsMadeUnused (v.values page) (w.values page) → FailCause cause v d w e → Fit (entered (with_parts g (freed g.parts page)) cpu op (Fail cause)) w e
 unfolding with_phase
 Fit-fill_failed g v d w e cpu op page cause f has phase back unused risen =
     let now = with_parts g (freed g.parts page) in
@@ -61,8 +63,10 @@ fit_turn g cpu v d h t w e f (missed_rehinted why op tag page found after starts
     rw eh (Fit-rehinted (flat_of g.plan g.journal) g v d w e page tag found after f has back may told)
 fit_turn g cpu v d h t w e f (was_begun op tag page rest found starts wants none top eh et back may value) =
     rw eh (Fit-begun (flat_of g.plan g.journal) g v d w e cpu op tag page rest found f starts wants none top back may value)
-fit_turn g cpu v d h t w e f (was_gone op tag page found starts wants has eh et back may lost unused quiet) = rw eh (Fit-gone (flat_of g.plan g.journal) g v d w e tag page found f has back may lost unused)
-fit_turn g cpu v d h t w e f (was_read file off len page found all after starts has back may are told eh et) = rw eh (Fit-read g v d w e cpu file off len page found all after f starts has back may are told)
+fit_turn g cpu v d h t w e f (was_gone op tag page found starts wants has eh et back may lost unused quiet) =
+    rw eh (Fit-gone (flat_of g.plan g.journal) g v d w e tag page found f has back may lost unused)
+fit_turn g cpu v d h t w e f (was_read file off len page found all after starts has back may are told eh et) =
+    rw eh (Fit-read g v d w e cpu file off len page found all after f starts has back may are told)
 fit_turn g cpu v d h t w e f (was_written file off bytes page found all starts has back may are value eh et) =
     rw eh (Fit-written g v d w e cpu file off bytes page found all f starts has back may are value)
 fit_turn g cpu v d h t w e f (touch_failed op tag page found after needs starts wants has back may told eh et risen) =
@@ -70,7 +74,8 @@ fit_turn g cpu v d h t w e f (touch_failed op tag page found after needs starts 
     (record { below = starts.has.below; command = starts.has.command }) needs starts.start risen)
 fit_turn g cpu v d h t w e f (was_resolved op tag writes slot off page found after starts wants maps has can back may told eh et) =
     rw eh (Fit-resolved (flat_of g.plan g.journal) g v d w e cpu op tag writes slot off page found after f starts wants maps has can back may told)
-fit_turn g cpu v d h t w e f (was_loaded number off len slot page writable all starts found entry are eh et may) = rw eh (Fit-loaded g v d w e cpu number off len slot page writable all f starts found entry are may)
+fit_turn g cpu v d h t w e f (was_loaded number off len slot page writable all starts found entry are eh et may) =
+    rw eh (Fit-loaded g v d w e cpu number off len slot page writable all f starts found entry are may)
 fit_turn g cpu v d h t w e f (was_stored number off bytes slot page found all starts slot_found entry back may are value eh et) =
     rw eh (Fit-stored g v d w e cpu number off bytes slot page found all f starts slot_found entry back may are value)
 fit_turn g cpu v d h t w e f (was_pinned pins number index slot tag page found after starts wants at has back may told eh et) =

@@ -4,8 +4,8 @@ use Rattle.cmm_types.specs.declared.page.TheConstants.{PAGE}
 use Rattle.cmm_types.specs.declared.page.Tag.{Tag}
 use Rattle.cmm_types.specs.declared.page.Tag.TheVariants.{File}
 use Rattle.cmm_io.specs.DiskView.{DiskView}
-use Rattle.cmm_flat.specs.Bytes.{bytes_at}
-use Rattle.cmm_flat.specs.RangeLaws.{bytes_at-bytes_at}
+use Rattle.cmm_types.specs.Bytes.{bytes_at}
+use Rattle.cmm_flat.specs.Laws.RangeLaws.{bytes_at-bytes_at}
 use Rattle.cmm_flat.specs.State.{FlatState, file_at}
 use Rattle.essa_state.specs.PageValue.{PageValue, Bytes, MayBecome}
 use Rattle.cmm_storage.specs.StorageView.{StorageView}
@@ -28,7 +28,8 @@ pub found-fits : (state : FlatState) (g : GuestState) (v : StorageView) (d : Dis
 found-fits state g v d page tag f tagged =
     (EachPageFits-from g.parts v d (infos-pages g v d f.sizes) f.pins f.hints f.contents).each page (rw (infos-pages g v d f.sizes) at (tagged-below g.parts.pages page tag tagged))
 
-pub found-current : (state : FlatState) (g : GuestState) (v : StorageView) (d : DiskView) (page : ℕ) (tag : Tag) (found : PageValue) (all : List ℕ) → FitAt state g v d → IsFound g v page tag found all → current g.parts v d tag ≡ all
+pub found-current : (state : FlatState) (g : GuestState) (v : StorageView) (d : DiskView) (page : ℕ) (tag : Tag) (found : PageValue) (all : List ℕ) → FitAt state g v d
+    → IsFound g v page tag found all → current g.parts v d tag ≡ all
 found-current state g v d page tag found all f k =
     let behind = backing g.parts.cache d tag in
     ap (λ o. current_at g.parts v o behind) (f.pages.indexed page tag k.tagged).1
@@ -36,11 +37,13 @@ found-current state g v d page tag found all f k =
     ∙ ap (λ u. current_bytes u found.contents behind) k.uptodate
     ∙ ap (λ c. current_bytes true c behind) k.are
 
-pub found-bytes : (state : FlatState) (g : GuestState) (v : StorageView) (d : DiskView) (page : ℕ) (tag : Tag) (found : PageValue) (all : List ℕ) (file index : ℕ) → FitAt state g v d → IsFound g v page tag found all → tag ≡ File file index
+pub found-bytes : (state : FlatState) (g : GuestState) (v : StorageView) (d : DiskView) (page : ℕ) (tag : Tag) (found : PageValue) (all : List ℕ) (file index : ℕ) → FitAt state g v d
+    → IsFound g v page tag found all → tag ≡ File file index
     → bytes_at (file_at state.files file) (PAGE * index) PAGE ≡ all
 found-bytes state g v d page tag found all file index f k is =
     f.flat.pages file index (rw is at (f.pages.indexed page tag k.tagged).0) ∙ ap (current g.parts v d) (sym is) ∙ found-current state g v d page tag found all f k
 
 -- bytes of a page are the file's, where its pages from one on are counted from 0
-pub bytes-in_page : (all : List ℕ) (first off len : ℕ) → off % PAGE + len ≤ PAGE → take len (drop (off % PAGE) (bytes_at all (PAGE * (first + off / PAGE)) PAGE)) ≡ bytes_at all (PAGE * first + off) len
+pub bytes-in_page : (all : List ℕ) (first off len : ℕ) → off % PAGE + len ≤ PAGE
+    → take len (drop (off % PAGE) (bytes_at all (PAGE * (first + off / PAGE)) PAGE)) ≡ bytes_at all (PAGE * first + off) len
 bytes-in_page all first off len within = bytes_at-bytes_at all (PAGE * (first + off / PAGE)) PAGE (off % PAGE) len within ∙ ap (λ n. bytes_at all n len) (omega arith)

@@ -9,10 +9,10 @@ use Rattle.cmm_types.specs.InRange.{IsPiece}
 use Rattle.cmm_io.specs.DiskView.{DiskView}
 use Rattle.cmm_flat.specs.declared.mapping.Mapping.{Mapping}
 use Rattle.cmm_flat.specs.declared.mapping.Shown.TheVariants.{OfFile as FlatFile}
-use Rattle.cmm_flat.specs.Bytes.{bytes_at}
+use Rattle.cmm_types.specs.Bytes.{bytes_at}
 use Rattle.cmm_flat.specs.State.{FlatState, file_at, mapping_at}
 use Rattle.cmm_flat.specs.Flat.{loaded, on_live}
-use Rattle.cmm_flat.specs.StepLaws.{step_done}
+use Rattle.cmm_flat.specs.Laws.StepLaws.{step_done}
 use Rattle.cmm_flat.specs.Legal.{process_of, flat_of}
 use Rattle.essa_state.specs.PageValue.{Bytes}
 use Rattle.cmm_storage.specs.StorageView.{StorageView}
@@ -33,7 +33,8 @@ use Rattle.guest_rules.proofs.Fit.Replies.{Fit-stepped, refused-same}
 abbrev pub file_mapping : (file first : ℕ) → Bool → (pins : List Bool) → Mapping
 file_mapping file first writable pins = record { shown = FlatFile file first writable; pins = pins }
 
-pub flat-mapped : (state : FlatState) (parts : Parts) (process number slot index : ℕ) (tag : Tag) → SlotsFit state parts → find_slot parts.maps process number ≡ Some slot → (s : ShowsAt parts slot index tag)
+pub flat-mapped : (state : FlatState) (parts : Parts) (process number slot index : ℕ) (tag : Tag) → SlotsFit state parts → find_slot parts.maps process number ≡ Some slot
+    → (s : ShowsAt parts slot index tag)
     → mapping_at state process number ≡ Some (file_mapping s.file s.first s.writable (pins_of parts.maps slot s.mapping.count))
 flat-mapped state parts process number slot index tag f found s =
     f.flat process number
@@ -41,8 +42,10 @@ flat-mapped state parts process number slot index tag f found s =
     ∙ ap (flat_mapping parts.maps slot) s.there
     ∙ ap (λ (shown : Shown). flat_mapping parts.maps slot (Some (record s.mapping { shown = shown }))) s.shown
 
-pub Fit-loaded : (g : GuestState) (v : StorageView) (d : DiskView) (w : StorageView) (e : DiskView) (cpu number off len slot page : ℕ) (writable : Bool) (all : List ℕ) → Fit g v d → Starts g cpu (Load number off len)
-    → find_slot g.parts.maps (process_of g.plan cpu) number ≡ Some slot → entry_at g.parts.maps slot (off / PAGE) ≡ Some (record { page = page; writable = writable }) → (w.values page).contents ≡ Bytes all → AllMay v d w e
+pub Fit-loaded : (g : GuestState) (v : StorageView) (d : DiskView) (w : StorageView) (e : DiskView) (cpu number off len slot page : ℕ) (writable : Bool) (all : List ℕ) → Fit g v d
+    → Starts g cpu (Load number off len)
+    → find_slot g.parts.maps (process_of g.plan cpu) number ≡ Some slot → entry_at g.parts.maps slot (off / PAGE) ≡ Some (record { page = page; writable = writable })
+    → (w.values page).contents ≡ Bytes all → AllMay v d w e
     → Fit (entered g cpu (Load number off len) (BytesReply (take len (drop (off % PAGE) all)))) w e
 Fit-loaded g v d w e cpu number off len slot page writable all f starts found entry are may =
     Fit-stepped g w e cpu (Load number off len) (BytesReply (take len (drop (off % PAGE) all))) flat (FitAt-may flat g v d w e f may) starts.has starts.start

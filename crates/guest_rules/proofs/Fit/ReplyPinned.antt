@@ -9,7 +9,7 @@ use Rattle.cmm_flat.specs.declared.mapping.Mapping.{Mapping}
 use Rattle.cmm_flat.specs.Mapping.{with_pin}
 use Rattle.cmm_flat.specs.State.{FlatState, mapping_at}
 use Rattle.cmm_flat.specs.Flat.{with_mapping, on_live, effect}
-use Rattle.cmm_flat.specs.StepLaws.{step_done}
+use Rattle.cmm_flat.specs.Laws.StepLaws.{step_done}
 use Rattle.cmm_flat.specs.Legal.{process_of, flat_of}
 use Rattle.essa_state.specs.PageValue.{PageValue, MayBecome}
 use Rattle.cmm_storage.specs.StorageView.{StorageView}
@@ -36,8 +36,10 @@ effect-pin : (state : FlatState) (process : ℕ) (pins : Bool) (number index : �
 effect-pin state process true number index = refl
 effect-pin state process false number index = refl
 
-pub Fit-pinned : (g : GuestState) (v : StorageView) (d : DiskView) (w : StorageView) (e : DiskView) (cpu : ℕ) (pins : Bool) (number index slot : ℕ) (tag : Tag) (page : ℕ) (found : PageValue) (after : Parts) → Fit g v d
-    → Starts g cpu (pin_op pins number index) → Wants g cpu (pin_op pins number index) tag → find_slot g.parts.maps (process_of g.plan cpu) number ≡ Some slot → HasPage g tag page → GivenBack page v d w e → MayBecome (v.values page) found
+pub Fit-pinned : (g : GuestState) (v : StorageView) (d : DiskView) (w : StorageView) (e : DiskView) (cpu : ℕ) (pins : Bool) (number index slot : ℕ) (tag : Tag) (page : ℕ) (found : PageValue)
+    (after : Parts) → Fit g v d
+    → Starts g cpu (pin_op pins number index) → Wants g cpu (pin_op pins number index) tag → find_slot g.parts.maps (process_of g.plan cpu) number ≡ Some slot → HasPage g tag page
+    → GivenBack page v d w e → MayBecome (v.values page) found
     → IsRehinted (pinned g.parts page slot index pins) page found after (w.values page) → Fit (entered (with_parts g after) cpu (pin_op pins number index) Done) w e
 Fit-pinned g v d w e cpu pins number index slot tag page found after f starts wants at has back may told =
     Fit-stepped (with_parts g after) w e cpu op Done later

@@ -12,10 +12,11 @@ use Rattle.cmm_io.specs.DiskView.{DiskView}
 use Rattle.cmm_flat.specs.declared.mapping.Mapping.{Mapping}
 use Rattle.cmm_flat.specs.State.{FlatState, file_at}
 use Rattle.cmm_flat.specs.Flat.{with_file_bytes, stored, on_live}
-use Rattle.cmm_flat.specs.StepLaws.{step_done}
+use Rattle.cmm_flat.specs.Laws.StepLaws.{step_done}
 use Rattle.cmm_flat.specs.Legal.{process_of, flat_of}
 use Rattle.essa_state.specs.PageValue.{PageValue, Bytes, MayBecome}
-use Rattle.cmm_storage.specs.StorageView.{StorageView, write_at}
+use Rattle.cmm_storage.specs.StorageView.{StorageView}
+use Rattle.cmm_types.specs.Bytes.{with_bytes}
 use Rattle.guest_pages.specs.declared.info.PageInfo.{PageInfo}
 use Rattle.guest_pages.specs.PagesView.{info_at}
 use Rattle.guest_cache.specs.CacheView.{CacheView}
@@ -46,7 +47,8 @@ never_volatile false b e h = cc
 hint-writers : (info : PageInfo) (tag : Tag) → info.tag ≡ Some tag → 1 ≤ info.writers → hint info ≢ V
 unfolding hint
 hint-writers info tag tagged some h =
-    never_volatile (can_be_fetched_again info) (nat_eq info.writers 0) (false_from_ne_true (nat_eq info.writers 0) (λ t. let none : info.writers ≡ 0 = eqb-true info.writers 0 t in omega (arith, none, some))) (rw tagged at h)
+    never_volatile (can_be_fetched_again info) (nat_eq info.writers 0)
+    (false_from_ne_true (nat_eq info.writers 0) (λ t. let none : info.writers ≡ 0 = eqb-true info.writers 0 t in omega (arith, none, some))) (rw tagged at h)
 
 -- a page that was stored to
 PageFits-stored : (cache : CacheView) (d : DiskView) (info : PageInfo) (tag : Tag) (found : PageValue) (bytes : List ℕ) → PageFits cache d info found → info.tag ≡ Some tag → 1 ≤ info.writers
@@ -64,9 +66,11 @@ PageFits-stored cache d info tag found bytes s tagged some = record {
 within_file : (first off len count pages size : ℕ) → off + len ≤ PAGE * count → first + count ≤ pages → size ≡ PAGE * pages → PAGE * first + off + len ≤ size
 within_file first off len count pages size within room is = omega (arith, within, room, is)
 
-pub Fit-stored : (g : GuestState) (v : StorageView) (d : DiskView) (w : StorageView) (e : DiskView) (cpu number off : ℕ) (bytes : List ℕ) (slot page : ℕ) (found : PageValue) (all : List ℕ) → Fit g v d → Starts g cpu (Store number off bytes)
-    → find_slot g.parts.maps (process_of g.plan cpu) number ≡ Some slot → entry_at g.parts.maps slot (off / PAGE) ≡ Some (record { page = page; writable = true }) → GivenBack page v d w e → MayBecome (v.values page) found
-    → found.contents ≡ Bytes all → w.values page ≡ record found { changed = true; contents = Bytes (write_at all (off % PAGE) bytes) } → Fit (entered g cpu (Store number off bytes) Done) w e
+pub Fit-stored : (g : GuestState) (v : StorageView) (d : DiskView) (w : StorageView) (e : DiskView) (cpu number off : ℕ) (bytes : List ℕ) (slot page : ℕ) (found : PageValue) (all : List ℕ)
+    → Fit g v d → Starts g cpu (Store number off bytes)
+    → find_slot g.parts.maps (process_of g.plan cpu) number ≡ Some slot → entry_at g.parts.maps slot (off / PAGE) ≡ Some (record { page = page; writable = true }) → GivenBack page v d w e
+    → MayBecome (v.values page) found
+    → found.contents ≡ Bytes all → w.values page ≡ record found { changed = true; contents = Bytes (with_bytes all (off % PAGE) bytes) } → Fit (entered g cpu (Store number off bytes) Done) w e
 Fit-stored g v d w e cpu number off bytes slot page found all f starts slot_found entry back may are value =
     Fit-stepped g w e cpu op Done (with_file_bytes flat s.file (PAGE * s.first + off) bytes)
     (FitAt-bytes flat g v d w e s.file s.first off bytes page k.tag found all found.usage true false f
@@ -105,7 +109,7 @@ Fit-stored g v d w e cpu number off bytes slot page found all f starts slot_foun
     fits : PageFits g.parts.cache d (info_at g.parts.pages page) (w.values page)
     fits =
         let was = PageFits-may g.parts.cache d (info_at g.parts.pages page) (v.values page) found (found-fits flat g v d page k.tag f has.tagged) may in
-        rw value (PageFits-stored g.parts.cache d (info_at g.parts.pages page) k.tag found (write_at all (off % PAGE) bytes) was has.tagged writers)
+        rw value (PageFits-stored g.parts.cache d (info_at g.parts.pages page) k.tag found (with_bytes all (off % PAGE) bytes) was has.tagged writers)
 
     planned : s.file < length g.plan.files
     planned = file-planned g v d s.file f.sizes s.file_below
@@ -116,4 +120,5 @@ Fit-stored g v d w e cpu number off bytes slot page found all f starts slot_foun
         rw s.there at k.within
 
     within : PAGE * s.first + off + length bytes ≤ length (file_at flat.files s.file)
-    within = within_file s.first off (length bytes) s.mapping.count _ _ room s.within (length-file flat.files g.plan.files s.file f.flat.lengths ∙ ap (λ n. PAGE * n) (sym (pages-planned g v d s.file f.sizes)))
+    within = within_file s.first off (length bytes) s.mapping.count _ _ room s.within
+        (length-file flat.files g.plan.files s.file f.flat.lengths ∙ ap (λ n. PAGE * n) (sym (pages-planned g v d s.file f.sizes)))

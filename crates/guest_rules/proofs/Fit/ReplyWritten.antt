@@ -10,10 +10,11 @@ use Rattle.cmm_types.specs.declared.command.Reply.TheVariants.{Done}
 use Rattle.cmm_io.specs.DiskView.{DiskView}
 use Rattle.cmm_flat.specs.State.{FlatState, file_at}
 use Rattle.cmm_flat.specs.Flat.{with_file_bytes}
-use Rattle.cmm_flat.specs.StepLaws.{step_done}
+use Rattle.cmm_flat.specs.Laws.StepLaws.{step_done}
 use Rattle.cmm_flat.specs.Legal.{process_of, flat_of}
 use Rattle.essa_state.specs.PageValue.{PageValue, Bytes, MayBecome}
-use Rattle.cmm_storage.specs.StorageView.{StorageView, write_at}
+use Rattle.cmm_storage.specs.StorageView.{StorageView}
+use Rattle.cmm_types.specs.Bytes.{with_bytes}
 use Rattle.guest_pages.specs.declared.info.PageInfo.{PageInfo}
 use Rattle.guest_pages.specs.PagesView.{info_at}
 use Rattle.guest_cache.specs.CacheView.{CacheView}
@@ -47,7 +48,8 @@ PageFits-written cache d info tag found bytes s tagged = record {
 within_file : (off len pages size : ℕ) → off + len ≤ PAGE * pages → size ≡ PAGE * pages → PAGE * 0 + off + len ≤ size
 within_file off len pages size within is = omega (arith, within, is)
 
-is_write : (flat : FlatState) (g : GuestState) (v : StorageView) (d : DiskView) (cpu file off : ℕ) (bytes : List ℕ) → FitAt flat g v d → Starts g cpu (Write file off bytes) → IsWrite flat.files file 0 off (length bytes)
+is_write : (flat : FlatState) (g : GuestState) (v : StorageView) (d : DiskView) (cpu file off : ℕ) (bytes : List ℕ) → FitAt flat g v d → Starts g cpu (Write file off bytes)
+    → IsWrite flat.files file 0 off (length bytes)
 is_write flat g v d cpu file off bytes f starts =
     let k : HasBytes g file off (length bytes) = write-bytes g v d (process_of g.plan cpu) file off bytes f.sizes starts.accepted in
     let planned : file < length g.plan.files = file-planned g v d file f.sizes k.file_below in
@@ -58,9 +60,11 @@ is_write flat g v d cpu file off bytes f starts =
       within_page = (write-piece g v d cpu file off bytes f.sizes starts.has).within_page;
     }
 
-pub Fit-written : (g : GuestState) (v : StorageView) (d : DiskView) (w : StorageView) (e : DiskView) (cpu file off : ℕ) (bytes : List ℕ) (page : ℕ) (found : PageValue) (all : List ℕ) → Fit g v d → Starts g cpu (Write file off bytes)
+pub Fit-written : (g : GuestState) (v : StorageView) (d : DiskView) (w : StorageView) (e : DiskView) (cpu file off : ℕ) (bytes : List ℕ) (page : ℕ) (found : PageValue) (all : List ℕ) → Fit g v d
+    → Starts g cpu (Write file off bytes)
     → HasPage g (File file (off / PAGE)) page → GivenBack page v d w e → MayBecome (v.values page) found → found.contents ≡ Bytes all
-    → w.values page ≡ record found { usage = S; changed = false; contents = Bytes (write_at all (off % PAGE) bytes) } → Fit (entered (with_parts g (dirtied g.parts page)) cpu (Write file off bytes) Done) w e
+    → w.values page ≡ record found { usage = S; changed = false; contents = Bytes (with_bytes all (off % PAGE) bytes) }
+    → Fit (entered (with_parts g (dirtied g.parts page)) cpu (Write file off bytes) Done) w e
 Fit-written g v d w e cpu file off bytes page found all f starts has back may are value =
     Fit-stepped (with_parts g (dirtied g.parts page)) w e cpu op Done (with_file_bytes flat file off bytes)
     (subst (λ at. FitAt (with_file_bytes flat file at bytes) (with_parts g (dirtied g.parts page)) w e) from
@@ -90,4 +94,4 @@ Fit-written g v d w e cpu file off bytes page found all f starts has back may ar
     fits : PageFits g.parts.cache d (changed_info true (info_at g.parts.pages page)) (w.values page)
     fits =
         let was = PageFits-may g.parts.cache d (info_at g.parts.pages page) (v.values page) found (found-fits flat g v d page tag f has.tagged) may in
-        rw value (PageFits-written g.parts.cache d (info_at g.parts.pages page) tag found (write_at all (off % PAGE) bytes) was has.tagged)
+        rw value (PageFits-written g.parts.cache d (info_at g.parts.pages page) tag found (with_bytes all (off % PAGE) bytes) was has.tagged)

@@ -7,11 +7,11 @@ use Rattle.cmm_types.specs.declared.command.Op.{Op}
 use Rattle.cmm_io.specs.DiskView.{DiskView}
 use Rattle.cmm_flat.specs.State.{FlatState}
 use Rattle.essa_state.specs.PageValue.{PageValue, Contents, Bytes, Blank, Lost, IsValue, MayBecome, StandsWith, made_stable, stable_contents}
-use Rattle.essa_state.specs.PageValueLaws.{MayBecome-is_value}
+use Rattle.essa_state.specs.Laws.PageValueLaws.{MayBecome-is_value}
 use Rattle.cmm_storage.specs.StorageView.{StorageView}
 use Rattle.guest_pages.specs.declared.info.PageInfo.{PageInfo}
 use Rattle.guest_pages.specs.PagesView.{info_at, free_info}
-use Rattle.guest_pages.specs.PagesLaws.{Contains-first}
+use Rattle.guest_pages.specs.Laws.PagesLaws.{Contains-first}
 use Rattle.guest_cache.specs.CacheView.{page_of}
 use Rattle.guest_rules.specs.declared.processor.Phase.TheVariants.{Fill}
 use Rattle.guest_rules.specs.GuestState.{GuestState, with_parts, with_phase}
@@ -41,7 +41,8 @@ stable-stands Blank changed h = (refl, h.1)
 stable-stands Lost changed h = (refl, h.1)
 
 -- a free page that was made stable
-PageFits-begun : (g : GuestState) (d : DiskView) (cpu : ℕ) (tag : Tag) (found : PageValue) → ((file : ℕ) × (index : ℕ) × (tag ≡ File file index)) → found.usage ≡ U → IsValue found → PageFits g.parts.cache d (begun_info tag cpu) (made_stable found)
+PageFits-begun : (g : GuestState) (d : DiskView) (cpu : ℕ) (tag : Tag) (found : PageValue) → ((file : ℕ) × (index : ℕ) × (tag ≡ File file index)) → found.usage ≡ U → IsValue found
+    → PageFits g.parts.cache d (begun_info tag cpu) (made_stable found)
 PageFits-begun g d cpu tag found of_file unused is = record {
   of_files = λ t e. (of_file.0, of_file.1, (let both : Some tag ≡ Some t = e in let same : t ≡ tag = cc in same ∙ of_file.2));
   is_value = stable-stands found.contents found.changed (rw unused at is);
@@ -59,7 +60,8 @@ stable-kept found = of found.contents
     of Blank = refl
     of Lost = refl
 
-pub Fit-begun : (state : FlatState) (g : GuestState) (v : StorageView) (d : DiskView) (w : StorageView) (e : DiskView) (cpu : ℕ) (op : Op) (tag : Tag) (page : ℕ) (rest : List ℕ) (found : PageValue) → FitAt state g v d → Starts g cpu op
+pub Fit-begun : (state : FlatState) (g : GuestState) (v : StorageView) (d : DiskView) (w : StorageView) (e : DiskView) (cpu : ℕ) (op : Op) (tag : Tag) (page : ℕ) (rest : List ℕ)
+    (found : PageValue) → FitAt state g v d → Starts g cpu op
     → Wants g cpu op tag → page_of g.parts.cache tag ≡ None → g.parts.pages.free ≡ page ∷ rest → GivenBack page v d w e → MayBecome (v.values page) found → w.values page ≡ made_stable found
     → FitAt state (with_phase (with_parts g (begun g.parts page tag cpu)) cpu (Fill page)) w e
 unfolding with_phase begun
@@ -67,8 +69,10 @@ Fit-begun state g v d w e cpu op tag page rest found f starts wants none top bac
     FitAt-step state state g v d h w e cpu page 0 (Fill page) (begun_info tag cpu) f step
     (PagesFit-begun g.parts h.parts page rest (begun_info tag cpu) tag f.pages top (begun-free g.parts page tag cpu ∙ ap (drop 1) top) change index refl wanted.is_tag none)
     (SlotsFit-kept state state g.parts h.parts f.slots refl refl refl refl refl change.size index.files)
-    (EntriesFit-info g.parts h.parts page (begun_info tag cpu) f.entries change refl (λ t t_is u. let bad : None ≡ Some t = sym free.1 ∙ t_is in absurd cc) (ap (λ (i : PageInfo). i.writers) (sym bare)))
-    (LocksFit-begun g h cpu page op (begun_info tag cpu) tag f.locks refl starts.has.below within starts.has.command (begun-needs state g v d cpu op tag f starts wants none) starts.start (ap (λ (i : PageInfo). i.owner) bare) change phase refl refl refl refl)
+    (EntriesFit-info g.parts h.parts page (begun_info tag cpu) f.entries change refl (λ t t_is u. let bad : None ≡ Some t = sym free.1 ∙ t_is in absurd cc)
+    (ap (λ (i : PageInfo). i.writers) (sym bare)))
+    (LocksFit-begun g h cpu page op (begun_info tag cpu) tag f.locks refl starts.has.below within starts.has.command (begun-needs state g v d cpu op tag f starts wants none) starts.start
+    (ap (λ (i : PageInfo). i.owner) bare) change phase refl refl refl refl)
     (FlatFit-same state g h v w d e f.flat refl index.files index.slots
     (current-begun g.parts h.parts v w d e page tag (step-same state g v d h w e cpu page (Fill page) (begun_info tag cpu) f step) index free.1 none (ap (λ (i : PageInfo). i.uptodate) change.here)))
     (record { handled = omega arith; counted = rw value (omega (arith, may-faults (v.values page) found may, stable-kept found)) })

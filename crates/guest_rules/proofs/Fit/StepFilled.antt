@@ -31,7 +31,8 @@ use Rattle.guest_rules.proofs.Fit.FitMay.{infos-pages}
 use Rattle.guest_rules.proofs.Fit.FitChanged.{TableStep, step-same, FitAt-step}
 
 -- a page that has the bytes of its tag
-PageFits-filled : (g : GuestState) (d : DiskView) (info : PageInfo) (tag : Tag) (file index : ℕ) (value : PageValue) → info.tag ≡ Some tag → tag ≡ File file index → info.pins ≡ 0 → info.writers ≡ 0 → info.dirty ≡ false
+PageFits-filled : (g : GuestState) (d : DiskView) (info : PageInfo) (tag : Tag) (file index : ℕ) (value : PageValue) → info.tag ≡ Some tag → tag ≡ File file index → info.pins ≡ 0
+    → info.writers ≡ 0 → info.dirty ≡ false
     → value.usage ≡ V → value.changed ≡ false → value.contents ≡ Bytes (backing g.parts.cache d tag) → PageFits g.parts.cache d (filled_info info) value
 unfolding hint
 PageFits-filled g d info tag file index value tagged is pins writers dirty usage changed contents = record {
@@ -50,8 +51,10 @@ bytes-kept : (value : PageValue) (bytes : List ℕ) → value.contents ≡ Bytes
 bytes-kept value bytes e = rw (e, one_if_lost) refl
 
 -- a page is filled, and its processor is in phase Start
-pub Fit-filled : (state : FlatState) (g : GuestState) (v : StorageView) (d : DiskView) (w : StorageView) (e : DiskView) (cpu page : ℕ) (tag : Tag) → FitAt state g v d → cpu < length g.processors → (processor_at g cpu).phase ≡ Fill page
-    → (info_at g.parts.pages page).tag ≡ Some tag → GivenBack page v d w e → w.values page ≡ record { usage = V; changed = false; contents = Bytes (backing g.parts.cache d tag); count = (v.values page).count }
+pub Fit-filled : (state : FlatState) (g : GuestState) (v : StorageView) (d : DiskView) (w : StorageView) (e : DiskView) (cpu page : ℕ) (tag : Tag) → FitAt state g v d → cpu < length g.processors
+    → (processor_at g cpu).phase ≡ Fill page
+    → (info_at g.parts.pages page).tag ≡ Some tag → GivenBack page v d w e
+    → w.values page ≡ record { usage = V; changed = false; contents = Bytes (backing g.parts.cache d tag); count = (v.values page).count }
     → FitAt state (with_phase (with_parts g (filled g.parts page)) cpu Start) w e
 unfolding with_phase
 Fit-filled state g v d w e cpu page tag f below phase tagged back value =
@@ -60,7 +63,8 @@ Fit-filled state g v d w e cpu page tag f below phase tagged back value =
     (SlotsFit-kept state state g.parts h.parts f.slots refl refl refl refl refl change.size refl)
     (EntriesFit-info g.parts h.parts page (filled_info (info_at g.parts.pages page)) f.entries change refl (λ t t_is u. (t_is, refl)) refl)
     (LocksFit-released g h cpu page (filled_info (info_at g.parts.pages page)) f.locks refl change phases refl (inl phase) (record { clean = λ u. clean; stale = λ t k none. refl }))
-    (FlatFit-same state g h v w d e f.flat refl refl refl (current-kept g.parts h.parts v w d e page (step-same state g v d h w e cpu page Start (filled_info (info_at g.parts.pages page)) f step) refl here))
+    (FlatFit-same state g h v w d e f.flat refl refl refl (current-kept g.parts h.parts v w d e page
+    (step-same state g v d h w e cpu page Start (filled_info (info_at g.parts.pages page)) f step) refl here))
     (record {
       handled = omega arith;
       counted = omega (arith, bytes-kept (w.values page) (backing g.parts.cache d tag) contents, ap (λ (x : PageValue). x.count) value);
@@ -91,7 +95,8 @@ Fit-filled state g v d w e cpu page tag f below phase tagged back value =
     phases = change-with_phase g.processors cpu Start below
 
     here : (t : Tag) → (info_at g.parts.pages page).tag ≡ Some t
-        → current_bytes (info_at h.parts.pages page).uptodate (w.values page).contents (backing g.parts.cache d t) ≡ current_bytes (info_at g.parts.pages page).uptodate (v.values page).contents (backing g.parts.cache d t)
+        → current_bytes (info_at h.parts.pages page).uptodate (w.values page).contents (backing g.parts.cache d t)
+        ≡ current_bytes (info_at g.parts.pages page).uptodate (v.values page).contents (backing g.parts.cache d t)
     here t e =
         let same : tag ≡ t = (let both : Some tag ≡ Some t = sym tagged ∙ e in cc) in
         ap (λ (i : PageInfo). current_bytes i.uptodate (w.values page).contents (backing g.parts.cache d t)) change.here
@@ -112,6 +117,7 @@ Fit-filled state g v d w e cpu page tag f below phase tagged back value =
       info_change = change;
       phase_change = phases;
       pins = PinsStand-info g.parts h.parts page (filled_info (info_at g.parts.pages page)) (standing g.parts f.pins) change refl (record { slots = refl; pinned = refl }) refl refl (λ u. refl);
-      fits = PageFits-filled g d (info_at g.parts.pages page) tag of_file.0 of_file.1 (w.values page) tagged of_file.2 (stale-unpinned g.parts page tag f.pins f.pages tagged stale) (stale-unshown g.parts page f.entries stale) clean
+      fits = PageFits-filled g d (info_at g.parts.pages page) tag of_file.0 of_file.1 (w.values page) tagged of_file.2 (stale-unpinned g.parts page tag f.pins f.pages tagged stale)
+          (stale-unshown g.parts page f.entries stale) clean
           (ap (λ (x : PageValue). x.usage) value) (ap (λ (x : PageValue). x.changed) value) contents;
     }

@@ -7,7 +7,7 @@ use Rattle.essa_state.specs.PageValue.{PageValue, Contents, Bytes, Blank, Lost, 
 use Rattle.cmm_storage.specs.StorageView.{StorageView}
 use Rattle.guest_pages.specs.PagesView.{PagesView, info_at, free_info}
 use Rattle.guest_maps.specs.MapsView.{MapsView, without_entries_of}
-use Rattle.guest_maps.specs.MapsLaws.{slots-without_entries_of, pinned-without_entries_of, pages-without_entries_of}
+use Rattle.guest_maps.specs.Laws.MapsLaws.{slots-without_entries_of, pinned-without_entries_of, pages-without_entries_of}
 use Rattle.guest_rules.specs.declared.processor.Phase.{Phase}
 use Rattle.guest_rules.specs.declared.processor.Phase.TheVariants.{Start, Fill}
 use Rattle.guest_rules.specs.GuestState.{GuestState, processor_at, with_parts, with_phase}
@@ -31,10 +31,13 @@ use Rattle.guest_rules.proofs.Fit.FitMay.{infos-pages}
 use Rattle.guest_rules.proofs.Fit.FitChanged.{TableStep, FaultStep, step-same, FitAt-step}
 
 -- a page with a tag becomes a free one, whose value is unused
-Fit-freed : (state : FlatState) (g : GuestState) (v : StorageView) (d : DiskView) (h : GuestState) (w : StorageView) (e : DiskView) (cpu page more : ℕ) (phase_after : Phase) (tag : Tag) → FitAt state g v d → GivenBack page v d w e → page < length g.parts.pages.infos
-    → (info_at g.parts.pages page).tag ≡ Some tag → h.plan ≡ g.plan → h.journal ≡ g.journal → h.parts.pages ≡ (freed g.parts page).pages → h.parts.cache ≡ (freed g.parts page).cache → h.parts.maps ≡ (freed g.parts page).maps
+Fit-freed : (state : FlatState) (g : GuestState) (v : StorageView) (d : DiskView) (h : GuestState) (w : StorageView) (e : DiskView) (cpu page more : ℕ) (phase_after : Phase) (tag : Tag)
+    → FitAt state g v d → GivenBack page v d w e → page < length g.parts.pages.infos
+    → (info_at g.parts.pages page).tag ≡ Some tag → h.plan ≡ g.plan → h.journal ≡ g.journal → h.parts.pages ≡ (freed g.parts page).pages → h.parts.cache ≡ (freed g.parts page).cache
+    → h.parts.maps ≡ (freed g.parts page).maps
     → PhaseChange g.processors h.processors cpu phase_after → PageFits g.parts.cache d free_info (w.values page) → (InfoChange g.parts.pages h.parts.pages page free_info → LocksFit h)
-    → current_bytes (info_at g.parts.pages page).uptodate (v.values page).contents (backing g.parts.cache d tag) ≡ backing g.parts.cache d tag → (info_at g.parts.pages page).pins ≡ 0 → FaultStep more g v h w page → FitAt state h w e
+    → current_bytes (info_at g.parts.pages page).uptodate (v.values page).contents (backing g.parts.cache d tag) ≡ backing g.parts.cache d tag → (info_at g.parts.pages page).pins ≡ 0
+    → FaultStep more g v h w page → FitAt state h w e
 Fit-freed state g v d h w e cpu page more phase_after tag f back within tagged plan journal pages cache maps phase fits locks behind unpinned faults =
     FitAt-step state state g v d h w e cpu page more phase_after free_info f step
     (PagesFit-freed g.parts h.parts page tag f.pages within tagged (ap (λ (p : PagesView). p.free) pages ∙ freed-free g.parts page) change index)
@@ -42,7 +45,8 @@ Fit-freed state g v d h w e cpu page more phase_after tag f back within tagged p
     (ap (λ (m : MapsView). m.pages) without ∙ pages-without_entries_of g.parts.maps page) change.size index.files)
     (EntriesFit-freed g.parts h.parts page f.entries change without)
     (locks change)
-    (FlatFit-same state g h v w d e f.flat plan index.files index.slots (current-freed g.parts h.parts v w d e page tag (step-same state g v d h w e cpu page phase_after free_info f step) index tagged behind)) faults
+    (FlatFit-same state g h v w d e f.flat plan index.files index.slots
+    (current-freed g.parts h.parts v w d e page tag (step-same state g v d h w e cpu page phase_after free_info f step) index tagged behind)) faults
   where
     index : IndexChange g.parts.cache h.parts.cache tag None
     index = rw (cache, freed-cache g.parts page tag tagged) (change-without_page g.parts.cache tag (record { whole = f.sizes.index }) (f.pages.indexed page tag tagged).0)
@@ -97,13 +101,19 @@ handled-faults g page = omega arith
 
 -- a discarded page is handled
 pub Fit-gone : (state : FlatState) (g : GuestState) (v : StorageView) (d : DiskView) (w : StorageView) (e : DiskView) (tag : Tag) (page : ℕ) (found : PageValue) → FitAt state g v d
-    → HasPage g tag page → GivenBack page v d w e → MayBecome (v.values page) found → is_lost found.contents ≡ true → IsMadeUnused found (w.values page) → FitAt state (with_parts g (handled g.parts page)) w e
+    → HasPage g tag page → GivenBack page v d w e → MayBecome (v.values page) found → is_lost found.contents ≡ true → IsMadeUnused found (w.values page)
+    → FitAt state (with_parts g (handled g.parts page)) w e
 Fit-gone state g v d w e tag page found f has back may lost unused =
-    Fit-freed state g v d (with_parts g (handled g.parts page)) w e 0 page 1 (processor_at g 0).phase tag f back has.below has.tagged refl refl (handled-pages g.parts page) (handled-cache g.parts page) (handled-maps g.parts page)
+    Fit-freed state g v d (with_parts g (handled g.parts page)) w e 0 page 1 (processor_at g 0).phase tag f back has.below has.tagged refl refl (handled-pages g.parts page)
+    (handled-cache g.parts page) (handled-maps g.parts page)
     (change-nothing g.processors 0 (processor_at g 0).phase refl) (PageFits-unused g d found (w.values page) unused)
     (λ change. LocksFit-unlocked g (with_parts g (handled g.parts page)) page free_info f.locks refl refl change has.unlocked refl free_lock) behind
     (lost-unpinned state g v d page tag found f has.below has.tagged may lost)
-    (record { handled = handled-faults g page; counted = omega (arith, may-faults (v.values page) found may, lost-one found.contents found refl lost, unused-kept found (w.values page) unused, unused.count) })
+    (record {
+      handled = handled-faults g page;
+      counted = omega
+          (arith, may-faults (v.values page) found may, lost-one found.contents found refl lost, unused-kept found (w.values page) unused, unused.count);
+    })
   where
     fits : PageFits g.parts.cache d (info_at g.parts.pages page) (v.values page)
     fits = (EachPageFits-from g.parts v d (infos-pages g v d f.sizes) f.pins f.hints f.contents).each page (rw (infos-pages g v d f.sizes) at has.below)
@@ -114,14 +124,17 @@ Fit-gone state g v d w e tag page found f has back may lost unused =
         ∙ current_bytes-lost (info_at g.parts.pages page).uptodate found.contents (backing g.parts.cache d tag) lost
 
 -- a page that couldn't be filled is free, and its processor is in phase Start
-pub Fit-given_up : (state : FlatState) (g : GuestState) (v : StorageView) (d : DiskView) (w : StorageView) (e : DiskView) (cpu page : ℕ) → FitAt state g v d → cpu < length g.processors → (processor_at g cpu).phase ≡ Fill page
+pub Fit-given_up : (state : FlatState) (g : GuestState) (v : StorageView) (d : DiskView) (w : StorageView) (e : DiskView) (cpu page : ℕ) → FitAt state g v d → cpu < length g.processors
+    → (processor_at g cpu).phase ≡ Fill page
     → GivenBack page v d w e → IsMadeUnused (v.values page) (w.values page) → FitAt state (with_phase (with_parts g (freed g.parts page)) cpu Start) w e
 unfolding with_phase
 Fit-given_up state g v d w e cpu page f below phase back unused =
     let k = (f.locks.filling cpu page phase).1 in
-    Fit-freed state g v d (with_phase (with_parts g (freed g.parts page)) cpu Start) w e cpu page 0 Start k.tag f back k.below k.tagged refl refl refl refl refl (change-with_phase g.processors cpu Start below)
+    Fit-freed state g v d (with_phase (with_parts g (freed g.parts page)) cpu Start) w e cpu page 0 Start k.tag f back k.below k.tagged refl refl refl refl refl
+    (change-with_phase g.processors cpu Start below)
     (PageFits-unused g d (v.values page) (w.values page) unused)
-    (λ change. LocksFit-released g (with_phase (with_parts g (freed g.parts page)) cpu Start) cpu page free_info f.locks refl change (change-with_phase g.processors cpu Start below) refl (inl phase) free_lock)
+    (λ change. LocksFit-released g (with_phase (with_parts g (freed g.parts page)) cpu Start) cpu page free_info f.locks refl change (change-with_phase g.processors cpu Start below) refl
+    (inl phase) free_lock)
     (current_bytes-stale (info_at g.parts.pages page).uptodate (v.values page).contents (backing g.parts.cache d k.tag) k.stale)
     (stale-unpinned g.parts page k.tag f.pins f.pages k.tagged k.stale)
     (record { handled = omega (arith, freed-faults g.parts page); counted = omega (arith, unused-kept (v.values page) (w.values page) unused, unused.count) })

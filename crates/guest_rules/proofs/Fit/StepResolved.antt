@@ -14,7 +14,7 @@ use Rattle.essa_state.specs.PageValue.{PageValue, MayBecome}
 use Rattle.cmm_storage.specs.StorageView.{StorageView}
 use Rattle.guest_pages.specs.PagesView.{info_at}
 use Rattle.guest_maps.specs.MapsView.{MapsView, slot_at, find_slot, entry_at, tag_at, is_mapping, with_entry}
-use Rattle.guest_maps.specs.MapsLaws.{slots-with_entry, pinned-with_entry, pages-with_entry}
+use Rattle.guest_maps.specs.Laws.MapsLaws.{slots-with_entry, pinned-with_entry, pages-with_entry}
 use Rattle.guest_rules.specs.declared.parts.Parts.{Parts}
 use Rattle.guest_rules.specs.GuestState.{GuestState, with_parts}
 use Rattle.guest_rules.specs.Rows.{mapped}
@@ -36,7 +36,8 @@ pub record IsWithin (maps : MapsView) (writes : Bool) (slot off len : ℕ) : Typ
   pub writable : writes ≡ true → slot_writable (slot_at maps slot) ≡ true
 
 pub accepted_at : (maps : MapsView) (writes : Bool) (slot off len : ℕ) → refusal_at maps writes off len (Some slot) ≡ None → IsWithin maps writes slot off len
-accepted_at maps writes slot off len e = let k = of (nat_le (off + len) (PAGE * mapping_pages (slot_at maps slot))) writes (slot_writable (slot_at maps slot)) e in record { within = leb-true _ _ k.0; writable = k.1 }
+accepted_at maps writes slot off len e = let k = of (nat_le (off + len) (PAGE * mapping_pages (slot_at maps slot))) writes (slot_writable (slot_at maps slot)) e
+    in record { within = leb-true _ _ k.0; writable = k.1 }
   where
     of : (b writes can : Bool) → (if b then (if writes && not can then Some ReadOnly else None) else Some OutOfRange) ≡ None → (b ≡ true) × (writes ≡ true → can ≡ true)
     of true true true e = (refl, λ x. refl)
@@ -69,8 +70,10 @@ through g cpu (Store number at bytes) tag writes slot off starts wants maps = re
 }
 through g cpu op tag writes slot off starts wants maps = absurd maps
 
-pub Fit-resolved : (state : FlatState) (g : GuestState) (v : StorageView) (d : DiskView) (w : StorageView) (e : DiskView) (cpu : ℕ) (op : Op) (tag : Tag) (writes : Bool) (slot off page : ℕ) (found : PageValue) (after : Parts) → FitAt state g v d
-    → Starts g cpu op → Wants g cpu op tag → Maps g cpu op writes slot off → HasPage g tag page → CanBeSet (entry_at g.parts.maps slot (off / PAGE)) writes → GivenBack page v d w e → MayBecome (v.values page) found
+pub Fit-resolved : (state : FlatState) (g : GuestState) (v : StorageView) (d : DiskView) (w : StorageView) (e : DiskView) (cpu : ℕ) (op : Op) (tag : Tag) (writes : Bool) (slot off page : ℕ)
+    (found : PageValue) (after : Parts) → FitAt state g v d
+    → Starts g cpu op → Wants g cpu op tag → Maps g cpu op writes slot off → HasPage g tag page → CanBeSet (entry_at g.parts.maps slot (off / PAGE)) writes → GivenBack page v d w e
+    → MayBecome (v.values page) found
     → IsRehinted (mapped g.parts page slot (off / PAGE) writes) page found after (w.values page) → FitAt state (with_parts g after) w e
 Fit-resolved state g v d w e cpu op tag writes slot off page found after f starts wants maps has can back may told =
     Fit-told state state g v d w e page tag found middle after f has back may (record {
@@ -90,7 +93,8 @@ Fit-resolved state g v d w e cpu op tag writes slot off page found after f start
         writable = its.writable;
         can = can;
       }) change set;
-      pins = PinsStand-info g.parts middle page (shown_info writes (info_at g.parts.pages page)) (standing g.parts f.pins) change (only-mapped g.parts page slot (off / PAGE) writes).cache places refl refl (λ u. u);
+      pins = PinsStand-info g.parts middle page (shown_info writes (info_at g.parts.pages page)) (standing g.parts f.pins) change
+          (only-mapped g.parts page slot (off / PAGE) writes).cache places refl refl (λ u. u);
     })
     told
   where

@@ -62,13 +62,15 @@ pub record IsSettled (g : GuestState) (v : StorageView) (d : DiskView) (w : Stor
   pub writers : new.writers ≡ (info_at g.parts.pages page).writers
   pub clean : new.dirty ≡ false → found.contents ≡ Bytes (backing g.parts.cache d tag)
 
-Fit-settled : (state : FlatState) (g : GuestState) (v : StorageView) (d : DiskView) (w : StorageView) (e : DiskView) (cpu page : ℕ) (phase : Phase) (tag : Tag) (found : PageValue) (after : Parts) (new : PageInfo) → FitAt state g v d
+Fit-settled : (state : FlatState) (g : GuestState) (v : StorageView) (d : DiskView) (w : StorageView) (e : DiskView) (cpu page : ℕ) (phase : Phase) (tag : Tag) (found : PageValue) (after : Parts)
+    (new : PageInfo) → FitAt state g v d
     → cpu < length g.processors → IsSettled g v d w e page tag found after new → LocksFit (with_phase (with_parts g after) cpu phase) → FitAt state (with_phase (with_parts g after) cpu phase) w e
 unfolding with_phase
 Fit-settled state g v d w e cpu page phase tag found after new f below s locks =
     FitAt-step state state g v d h w e cpu page 0 phase new f step
     (PagesFit-kept g.parts after page new tag f.pages s.shows.tagged (s.same.tag ∙ s.shows.tagged) s.only.free s.change s.only.cache)
-    (SlotsFit-kept state state g.parts after f.slots refl (ap (λ m. m.slots) s.maps) (ap (λ m. length m.entries) s.maps) (ap (λ m. m.pinned) s.maps) (ap (λ m. m.pages) s.maps) s.change.size (ap (λ (c : CacheView). c.files) s.only.cache))
+    (SlotsFit-kept state state g.parts after f.slots refl (ap (λ m. m.slots) s.maps) (ap (λ m. length m.entries) s.maps) (ap (λ m. m.pinned) s.maps) (ap (λ m. m.pages) s.maps) s.change.size
+    (ap (λ (c : CacheView). c.files) s.only.cache))
     (EntriesFit-info g.parts after page new f.entries s.change s.maps (λ t t_is u. (s.same.tag ∙ t_is, s.same.uptodate ∙ u)) s.writers)
     locks
     (FlatFit-same state g h v w d e f.flat refl (ap (λ (c : CacheView). c.files) s.only.cache) (ap (λ (c : CacheView). c.slots) s.only.cache)
@@ -82,7 +84,8 @@ Fit-settled state g v d w e cpu page phase tag found after new f below s locks =
     before = found-fits state g v d page tag f s.shows.tagged
 
     here : (t : Tag) → (info_at g.parts.pages page).tag ≡ Some t
-        → current_bytes (info_at after.pages page).uptodate (w.values page).contents (backing g.parts.cache d t) ≡ current_bytes (info_at g.parts.pages page).uptodate (v.values page).contents (backing g.parts.cache d t)
+        → current_bytes (info_at after.pages page).uptodate (w.values page).contents (backing g.parts.cache d t)
+        ≡ current_bytes (info_at g.parts.pages page).uptodate (v.values page).contents (backing g.parts.cache d t)
     here t e =
         ap (λ u. current_bytes u (w.values page).contents (backing g.parts.cache d t)) (ap (λ (i : PageInfo). i.uptodate) s.change.here ∙ s.same.uptodate)
         ∙ ap (λ c. current_bytes (info_at g.parts.pages page).uptodate c (backing g.parts.cache d t)) (ap (λ (x : PageValue). x.contents) s.value)
@@ -100,8 +103,10 @@ Fit-settled state g v d w e cpu page phase tag found after new f below s locks =
       index = ap (λ (c : CacheView). length c.index) s.only.cache;
       info_change = s.change;
       phase_change = change-with_phase g.processors cpu phase below;
-      pins = PinsStand-info g.parts after page new (standing g.parts f.pins) s.change s.only.cache (record { slots = ap (λ m. m.slots) s.maps; pinned = ap (λ m. m.pinned) s.maps }) s.same.tag s.same.pins (λ u. s.same.uptodate ∙ u);
-      fits = rw s.value (PageFits-settled g.parts.cache d (info_at g.parts.pages page) new found tag (PageFits-may g.parts.cache d (info_at g.parts.pages page) (v.values page) found before s.may) s.same.tag s.shows.tagged s.shows.uptodate s.there s.clean);
+      pins = PinsStand-info g.parts after page new (standing g.parts f.pins) s.change s.only.cache
+          (record { slots = ap (λ m. m.slots) s.maps; pinned = ap (λ m. m.pinned) s.maps }) s.same.tag s.same.pins (λ u. s.same.uptodate ∙ u);
+      fits = rw s.value (PageFits-settled g.parts.cache d (info_at g.parts.pages page) new found tag
+          (PageFits-may g.parts.cache d (info_at g.parts.pages page) (v.values page) found before s.may) s.same.tag s.shows.tagged s.shows.uptodate s.there s.clean);
     }
 
 -- one change of the tables after another
@@ -129,8 +134,10 @@ writes-at g cpu file index page f k =
     (subst (λ n. IsSyncing g cpu n index) same is.syncing, record { below = is.below; tagged = is.tagged ∙ ap (λ n. Some (File n index)) same; uptodate = is.uptodate })
 
 -- a dirty page is locked, to be written back
-pub Fit-locked : (state : FlatState) (g : GuestState) (v : StorageView) (d : DiskView) (w : StorageView) (e : DiskView) (cpu file index page : ℕ) (found : PageValue) → FitAt state g v d → Syncs g cpu file index → HasPage g (File file index) page
-    → GivenBack page v d w e → MayBecome (v.values page) found → is_lost found.contents ≡ false → (info_at (with_change g.parts page found.changed).pages page).dirty ≡ true → w.values page ≡ record found { usage = S; changed = false }
+pub Fit-locked : (state : FlatState) (g : GuestState) (v : StorageView) (d : DiskView) (w : StorageView) (e : DiskView) (cpu file index page : ℕ) (found : PageValue) → FitAt state g v d
+    → Syncs g cpu file index → HasPage g (File file index) page
+    → GivenBack page v d w e → MayBecome (v.values page) found → is_lost found.contents ≡ false → (info_at (with_change g.parts page found.changed).pages page).dirty ≡ true
+    → w.values page ≡ record found { usage = S; changed = false }
     → FitAt state (with_phase (with_parts g (locked (with_change g.parts page found.changed) page cpu)) cpu (SyncWrite index page)) w e
 unfolding with_phase
 Fit-locked state g v d w e cpu file index page found f s has back may there dirty value =
@@ -207,7 +214,8 @@ record IsReleased (g : GuestState) (page : ℕ) (middle : Parts) (dirty : Bool) 
   kept : (info_at middle.pages page).dirty ≡ dirty
 
 -- its hint was told again; where it is clean its bytes are those that back its tag
-Fit-released : (state : FlatState) (g : GuestState) (v : StorageView) (d : DiskView) (w : StorageView) (e : DiskView) (cpu file index page : ℕ) (middle after : Parts) (dirty : Bool) → FitAt state g v d → WritesBack g cpu file index page
+Fit-released : (state : FlatState) (g : GuestState) (v : StorageView) (d : DiskView) (w : StorageView) (e : DiskView) (cpu file index page : ℕ) (middle after : Parts) (dirty : Bool)
+    → FitAt state g v d → WritesBack g cpu file index page
     → GivenBack page v d w e → IsReleased g page middle dirty → IsRehinted middle page (v.values page) after (w.values page)
     → (dirty ≡ false → (v.values page).changed ≡ false → (v.values page).contents ≡ Bytes (backing g.parts.cache d (File file index))) → FitAt state (with_phase (with_parts g after) cpu Start) w e
 unfolding with_phase
@@ -255,12 +263,15 @@ Fit-released state g v d w e cpu file index page middle after dirty f k back r t
     uptodate = is.uptodate ∙ r.same.uptodate ∙ shows.uptodate
 
     locks : LocksFit (with_phase (with_parts g last) cpu Start)
-    locks = LocksFit-released g (with_phase (with_parts g last) cpu Start) cpu page new f.locks refl change (change-with_phase g.processors cpu Start k.has.below) (is.owner ∙ r.unlocked_now) (inr (index, k.phase))
+    locks = LocksFit-released g (with_phase (with_parts g last) cpu Start) cpu page new f.locks refl change (change-with_phase g.processors cpu Start k.has.below) (is.owner ∙ r.unlocked_now)
+        (inr (index, k.phase))
         (record { clean = λ u. let bad : true ≡ false = sym uptodate ∙ u in absurd cc; stale = λ t e none. uptodate })
 
 -- a page was written to its block
-pub Fit-written_back : (state : FlatState) (g : GuestState) (v : StorageView) (d : DiskView) (w : StorageView) (e : DiskView) (cpu file index page : ℕ) (bytes : List ℕ) (after : Parts) → FitAt state g v d → WritesBack g cpu file index page
-    → (v.values page).contents ≡ Bytes bytes → WrittenBack page (File file index) g.parts.cache bytes v d w e → IsRehinted (cleaned g.parts page) page (v.values page) after (w.values page) → FitAt state (with_phase (with_parts g after) cpu Start) w e
+pub Fit-written_back : (state : FlatState) (g : GuestState) (v : StorageView) (d : DiskView) (w : StorageView) (e : DiskView) (cpu file index page : ℕ) (bytes : List ℕ) (after : Parts)
+    → FitAt state g v d → WritesBack g cpu file index page
+    → (v.values page).contents ≡ Bytes bytes → WrittenBack page (File file index) g.parts.cache bytes v d w e → IsRehinted (cleaned g.parts page) page (v.values page) after (w.values page)
+    → FitAt state (with_phase (with_parts g after) cpu Start) w e
 Fit-written_back state g v d w e cpu file index page bytes after f k are wrote told =
     Fit-released state g v e w e cpu file index page (cleaned g.parts page) after false (FitAt-block state g v d e page file index wrote.block bytes f writes) k
     (record { keeps = wrote.keeps; held = wrote.held; count = refl; blocks = refl })
@@ -285,7 +296,8 @@ Fit-written_back state g v d w e cpu file index page bytes after f k are wrote t
     change = change-cleaned g.parts page shows.below
 
 -- a page couldn't be written back: it stays dirty
-pub Fit-not_written : (state : FlatState) (g : GuestState) (v : StorageView) (d : DiskView) (w : StorageView) (e : DiskView) (cpu file index page : ℕ) (after : Parts) → FitAt state g v d → WritesBack g cpu file index page
+pub Fit-not_written : (state : FlatState) (g : GuestState) (v : StorageView) (d : DiskView) (w : StorageView) (e : DiskView) (cpu file index page : ℕ) (after : Parts) → FitAt state g v d
+    → WritesBack g cpu file index page
     → GivenBack page v d w e → IsRehinted (unlocked g.parts page) page (v.values page) after (w.values page) → FitAt state (with_phase (with_parts g after) cpu Start) w e
 Fit-not_written state g v d w e cpu file index page after f k back told =
     Fit-released state g v d w e cpu file index page (unlocked g.parts page) after (info_at g.parts.pages page).dirty f k back

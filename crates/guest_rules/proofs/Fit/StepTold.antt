@@ -63,7 +63,8 @@ not_lost Blank value e there = rw (e, one_if_lost) refl
 not_lost Lost value e there = let bad : true ≡ false = there in absurd cc
 
 -- a page that is up to date, found there and left with its hint; where it is clean it has what backs its tag
-pub PageFits-settled : (cache : CacheView) (d : DiskView) (old new : PageInfo) (found : PageValue) (tag : Tag) → PageFits cache d old found → new.tag ≡ old.tag → old.tag ≡ Some tag → old.uptodate ≡ true → is_lost found.contents ≡ false
+pub PageFits-settled : (cache : CacheView) (d : DiskView) (old new : PageInfo) (found : PageValue) (tag : Tag) → PageFits cache d old found → new.tag ≡ old.tag → old.tag ≡ Some tag
+    → old.uptodate ≡ true → is_lost found.contents ≡ false
     → (new.dirty ≡ false → found.contents ≡ Bytes (backing cache d tag)) → PageFits cache d new (record found { usage = hint new; changed = false })
 PageFits-settled cache d old new found tag s tags tagged uptodate there clean = record {
   of_files = λ t e. s.of_files t (sym tags ∙ e);
@@ -74,7 +75,8 @@ PageFits-settled cache d old new found tag s tags tagged uptodate there clean = 
   same = λ t e u c unchanged kept. clean c ∙ ap (λ (x : Tag). Bytes (backing cache d x)) (let both : Some tag ≡ Some t = sym tagged ∙ sym tags ∙ e in cc);
 }
 
-PageFits-told : (cache : CacheView) (d : DiskView) (old info new : PageInfo) (found : PageValue) (tag : Tag) → PageFits cache d old found → KeepsPage old info → IsChanged info found.changed new → old.tag ≡ Some tag → old.uptodate ≡ true
+PageFits-told : (cache : CacheView) (d : DiskView) (old info new : PageInfo) (found : PageValue) (tag : Tag) → PageFits cache d old found → KeepsPage old info → IsChanged info found.changed new
+    → old.tag ≡ Some tag → old.uptodate ≡ true
     → is_lost found.contents ≡ false → PageFits cache d new (record found { usage = hint new; changed = false })
 PageFits-told cache d old info new found tag s keeps changed tagged uptodate there =
     PageFits-settled cache d old new found tag s (changed.tag ∙ keeps.tag) tagged uptodate there
@@ -99,15 +101,18 @@ record IsTold (middle : Parts) (page : ℕ) (found left : PageValue) : Type 0 wh
 FlatFit-files : (state later : FlatState) (g : GuestState) (v : StorageView) (d : DiskView) → FlatFit state g v d → later.files ≡ state.files → FlatFit later g v d
 FlatFit-files state later g v d f files = record { lengths = rw files f.lengths; pages = λ file index is. rw files (f.pages file index is) }
 
-Fit-changed : (state later : FlatState) (g : GuestState) (v : StorageView) (d : DiskView) (w : StorageView) (e : DiskView) (page : ℕ) (tag : Tag) (found : PageValue) (middle : Parts) → FitAt state g v d → HasPage g tag page → GivenBack page v d w e
+Fit-changed : (state later : FlatState) (g : GuestState) (v : StorageView) (d : DiskView) (w : StorageView) (e : DiskView) (page : ℕ) (tag : Tag) (found : PageValue) (middle : Parts)
+    → FitAt state g v d → HasPage g tag page → GivenBack page v d w e
     → MayBecome (v.values page) found → Middle state later g middle page → IsTold middle page found (w.values page) → FitAt later (with_parts g (with_change middle page found.changed)) w e
 Fit-changed state later g v d w e page tag found middle f has back may mid told =
     FitAt-step state later g v d h w e 0 page 0 (processor_at g 0).phase new f step
     (PagesFit-kept g.parts after page new tag f.pages has.tagged (tags ∙ has.tagged) (only.free ∙ mid.only.free) change cache)
-    (SlotsFit-kept later later middle after mid.slots refl (ap (λ m. m.slots) maps) (ap (λ m. length m.entries) maps) (ap (λ m. m.pinned) maps) (ap (λ m. m.pages) maps) last.size (ap (λ (c : CacheView). c.files) only.cache))
+    (SlotsFit-kept later later middle after mid.slots refl (ap (λ m. m.slots) maps) (ap (λ m. length m.entries) maps) (ap (λ m. m.pinned) maps) (ap (λ m. m.pages) maps) last.size
+    (ap (λ (c : CacheView). c.files) only.cache))
     (EntriesFit-info middle after page new mid.entries last maps (λ t t_is u. (changed.tag ∙ t_is, changed.uptodate ∙ u)) changed.writers)
     (LocksFit-kept g h page new f.locks refl refl change tags (changed.owner ∙ mid.keeps.owner) uptodates (λ u. let bad : true ≡ false = sym uptodate ∙ sym uptodates ∙ u in cc))
-    (FlatFit-same later g h v w d e (FlatFit-files state later g v d f.flat mid.files) refl (ap (λ (c : CacheView). c.files) cache) (ap (λ (c : CacheView). c.slots) cache) (current-kept g.parts after v w d e page (step-same state g v d h w e 0 page (processor_at g 0).phase new f step) cache here))
+    (FlatFit-same later g h v w d e (FlatFit-files state later g v d f.flat mid.files) refl (ap (λ (c : CacheView). c.files) cache) (ap (λ (c : CacheView). c.slots) cache)
+    (current-kept g.parts after v w d e page (step-same state g v d h w e 0 page (processor_at g 0).phase new f step) cache here))
     (record { handled = omega (arith, only.faults, mid.only.faults); counted = rw told.value (omega (arith, may-faults (v.values page) found may, not_lost found.contents found refl told.there)) })
   where
     after : Parts
@@ -154,14 +159,16 @@ Fit-changed state later g v d w e page tag found middle f has back may mid told 
 
     fits : PageFits g.parts.cache d new (w.values page)
     fits =
-        let s = PageFits-told g.parts.cache d (info_at g.parts.pages page) (info_at middle.pages page) new found tag (PageFits-may g.parts.cache d (info_at g.parts.pages page) (v.values page) found before may) mid.keeps changed has.tagged uptodate told.there in
+        let s = PageFits-told g.parts.cache d (info_at g.parts.pages page) (info_at middle.pages page) new found tag
+        (PageFits-may g.parts.cache d (info_at g.parts.pages page) (v.values page) found before may) mid.keeps changed has.tagged uptodate told.there in
         subst (λ (x : PageValue). PageFits g.parts.cache d new x) (sym (told.value ∙ ap (λ (i : PageInfo). let x : PageValue = record found { usage = hint i; changed = false } in x) last.here)) s
 
     contents : (w.values page).contents ≡ found.contents
     contents = ap (λ (x : PageValue). x.contents) told.value
 
     here : (t : Tag) → (info_at g.parts.pages page).tag ≡ Some t
-        → current_bytes (info_at after.pages page).uptodate (w.values page).contents (backing g.parts.cache d t) ≡ current_bytes (info_at g.parts.pages page).uptodate (v.values page).contents (backing g.parts.cache d t)
+        → current_bytes (info_at after.pages page).uptodate (w.values page).contents (backing g.parts.cache d t)
+        ≡ current_bytes (info_at g.parts.pages page).uptodate (v.values page).contents (backing g.parts.cache d t)
     here t e =
         ap (λ u. current_bytes u (w.values page).contents (backing g.parts.cache d t)) (ap (λ (i : PageInfo). i.uptodate) change.here ∙ uptodates)
         ∙ ap (λ c. current_bytes (info_at g.parts.pages page).uptodate c (backing g.parts.cache d t)) contents
@@ -179,12 +186,14 @@ Fit-changed state later g v d w e page tag found middle f has back may mid told 
       index = ap (λ (c : CacheView). length c.index) cache;
       info_change = change;
       phase_change = change-nothing g.processors 0 (processor_at g 0).phase refl;
-      pins = PinsStand-info middle after page new mid.pins last only.cache (record { slots = ap (λ m. m.slots) maps; pinned = ap (λ m. m.pinned) maps }) changed.tag changed.pins (λ u. changed.uptodate ∙ u);
+      pins = PinsStand-info middle after page new mid.pins last only.cache (record { slots = ap (λ m. m.slots) maps; pinned = ap (λ m. m.pinned) maps }) changed.tag changed.pins
+          (λ u. changed.uptodate ∙ u);
       fits = fits;
     }
 
 -- the page was found there, and its hint was told over the tables between
-pub Fit-told : (state later : FlatState) (g : GuestState) (v : StorageView) (d : DiskView) (w : StorageView) (e : DiskView) (page : ℕ) (tag : Tag) (found : PageValue) (middle after : Parts) → FitAt state g v d → HasPage g tag page → GivenBack page v d w e
+pub Fit-told : (state later : FlatState) (g : GuestState) (v : StorageView) (d : DiskView) (w : StorageView) (e : DiskView) (page : ℕ) (tag : Tag) (found : PageValue) (middle after : Parts)
+    → FitAt state g v d → HasPage g tag page → GivenBack page v d w e
     → MayBecome (v.values page) found → Middle state later g middle page → IsRehinted middle page found after (w.values page) → FitAt later (with_parts g after) w e
 Fit-told state later g v d w e page tag found middle after f has back may mid told =
     subst (λ (q : Parts). FitAt later (with_parts g q) w e) (sym told.tables)
@@ -192,7 +201,8 @@ Fit-told state later g v d w e page tag found middle after f has back may mid to
     (record { there = told.there; value = told.value ∙ ap (λ (q : Parts). let x : PageValue = record found { usage = hint (info_at q.pages page); changed = false } in x) told.tables }))
 
 -- the tables themselves
-pub Fit-rehinted : (state : FlatState) (g : GuestState) (v : StorageView) (d : DiskView) (w : StorageView) (e : DiskView) (page : ℕ) (tag : Tag) (found : PageValue) (after : Parts) → FitAt state g v d → HasPage g tag page → GivenBack page v d w e
+pub Fit-rehinted : (state : FlatState) (g : GuestState) (v : StorageView) (d : DiskView) (w : StorageView) (e : DiskView) (page : ℕ) (tag : Tag) (found : PageValue) (after : Parts)
+    → FitAt state g v d → HasPage g tag page → GivenBack page v d w e
     → MayBecome (v.values page) found → IsRehinted g.parts page found after (w.values page) → FitAt state (with_parts g after) w e
 Fit-rehinted state g v d w e page tag found after f has back may told =
     Fit-told state state g v d w e page tag found g.parts after f has back may (record {

@@ -3,8 +3,8 @@ use Rattle.std.proofs.Common.{◌≡◌, ◌≢◌, ◌⊎◌, ◌<◌, ◌≤�
 use Rattle.std.proofs.lemmas.Bool.{cases_eq, cases_lt}
 use Rattle.cmm_types.specs.declared.page.TheConstants.{PAGE}
 use Rattle.cmm_types.specs.declared.page.Tag.TheVariants.{File}
-use Rattle.cmm_flat.specs.Bytes.{bytes_at, with_bytes}
-use Rattle.cmm_flat.specs.RangeLaws.{bytes_at-with_bytes_below, bytes_at-with_bytes_above, bytes_at-with_bytes_round}
+use Rattle.cmm_types.specs.Bytes.{bytes_at, with_bytes}
+use Rattle.cmm_flat.specs.Laws.RangeLaws.{bytes_at-with_bytes_below, bytes_at-with_bytes_above, bytes_at-with_bytes_round}
 use Rattle.cmm_flat.specs.State.{file_at}
 
 -- bytes in one page of a file, the page counted from `first` on
@@ -18,7 +18,8 @@ abbrev pub stored_files : List (List ℕ) → ℕ → ℕ → List ℕ → List 
 stored_files files file at bytes = set files file (with_bytes (file_at files file) at bytes)
 
 -- the page has the bytes at their place in it
-pub stored-here : (files : List (List ℕ)) (file first off : ℕ) (bytes all : List ℕ) → IsWrite files file first off (length bytes) → bytes_at (file_at files file) (PAGE * (first + off / PAGE)) PAGE ≡ all
+pub stored-here : (files : List (List ℕ)) (file first off : ℕ) (bytes all : List ℕ) → IsWrite files file first off (length bytes)
+    → bytes_at (file_at files file) (PAGE * (first + off / PAGE)) PAGE ≡ all
     → bytes_at (file_at (stored_files files file (PAGE * first + off) bytes) file) (PAGE * (first + off / PAGE)) PAGE ≡ with_bytes all (off % PAGE) bytes
 stored-here files file first off bytes all k are =
     let old = file_at files file in

@@ -7,12 +7,12 @@ use Rattle.cmm_types.specs.declared.page.Tag.{Tag}
 use Rattle.cmm_types.specs.declared.page.Tag.TheVariants.{File, Anon}
 use Rattle.guest_pages.specs.declared.info.PageInfo.{PageInfo}
 use Rattle.guest_pages.specs.PagesView.{PagesView, info_at, with_info}
-use Rattle.guest_pages.specs.PagesLaws.{info_at-with_info_same, info_at-with_info_other, length-with_info}
-use Rattle.guest_cache.specs.CacheView.{CacheView, IsTag, place_of, page_of, with_page, without_page}
-use Rattle.guest_cache.specs.CacheLaws.{IsCache, page_of-with_page_same, page_of-with_page_other, page_of-without_page_same, page_of-without_page_other}
+use Rattle.guest_pages.specs.Laws.PagesLaws.{info_at-with_info_same, info_at-with_info_other, length-with_info}
+use Rattle.guest_cache.specs.CacheView.{CacheView, IsTag, index_place, page_of, with_page, without_page}
+use Rattle.guest_cache.specs.Laws.CacheLaws.{IsCache, page_of-with_page_same, page_of-with_page_other, page_of-without_page_same, page_of-without_page_other}
 use Rattle.guest_rules.specs.declared.processor.Phase.{Phase}
 use Rattle.guest_rules.specs.declared.processor.Processor.{Processor}
-use Rattle.guest_rules.specs.GuestState.{at_start}
+use Rattle.guest_rules.specs.GuestState.{first_processor}
 
 -- one page's info is another
 pub record InfoChange (old new : PagesView) (page : ℕ) (info : PageInfo) : Type 0 where
@@ -47,7 +47,7 @@ change-with_page cache tag page sound is = record {
   files = refl;
   swap = refl;
   slots = refl;
-  size = length-set cache.index (place_of cache tag) (Some page);
+  size = length-set cache.index (index_place cache tag) (Some page);
   here = page_of-with_page_same cache tag page sound is;
   others = λ t is_t other. page_of-with_page_other cache tag t page is is_t other;
 }
@@ -59,7 +59,7 @@ change-without_page cache tag sound is = record {
   files = refl;
   swap = refl;
   slots = refl;
-  size = length-set cache.index (place_of cache tag) None;
+  size = length-set cache.index (index_place cache tag) None;
   here = page_of-without_page_same cache tag sound is;
   others = λ t is_t other. page_of-without_page_other cache tag t is is_t other;
 }
@@ -84,21 +84,27 @@ cases_tag (Anon slot index) (Anon slot' index') = elim (cases_eq slot slot') [
 -- one processor's phase is another; where they are is the same
 pub record PhaseChange (old new : List Processor) (cpu : ℕ) (phase : Phase) : Type 0 where
   pub size : length new ≡ length old
-  pub here : get_or new cpu at_start ≡ record { place = (get_or old cpu at_start).place; phase = phase }
-  pub others : (q : ℕ) → q ≢ cpu → get_or new q at_start ≡ get_or old q at_start
+  pub here : get_or new cpu first_processor ≡ record { place = (get_or old cpu first_processor).place; phase = phase }
+  pub others : (q : ℕ) → q ≢ cpu → get_or new q first_processor ≡ get_or old q first_processor
   pub places : sum_by (λ processor. processor.place) new ≡ sum_by (λ processor. processor.place) old
 
 pub change-with_phase : (old : List Processor) (cpu : ℕ) (phase : Phase) → cpu < length old
-    → PhaseChange old (set old cpu (record { place = (get_or old cpu at_start).place; phase = phase })) cpu phase
+    → PhaseChange old (set old cpu (record { place = (get_or old cpu first_processor).place; phase = phase })) cpu phase
 change-with_phase old cpu phase below =
-    let new : Processor = record { place = (get_or old cpu at_start).place; phase = phase } in
+    let new : Processor = record { place = (get_or old cpu first_processor).place; phase = phase } in
     record {
       size = length-set old cpu new;
-      here = get_or-set_same old cpu new at_start below;
-      others = λ q other. get_or-set_other old cpu q new at_start other;
-      places = omega (arith, sum_by-set (λ (p : Processor). p.place) old cpu new at_start below);
+      here = get_or-set_same old cpu new first_processor below;
+      others = λ q other. get_or-set_other old cpu q new first_processor other;
+      places = omega (arith, sum_by-set (λ (p : Processor). p.place) old cpu new first_processor below);
     }
 
 -- a phase that it had already
-pub change-nothing : (old : List Processor) (cpu : ℕ) (phase : Phase) → (get_or old cpu at_start).phase ≡ phase → PhaseChange old old cpu phase
-change-nothing old cpu phase e = record { size = refl; here = ap (λ (p : Phase). let new : Processor = record { place = (get_or old cpu at_start).place; phase = p } in new) e; others = λ q other. refl; places = refl }
+pub change-nothing : (old : List Processor) (cpu : ℕ) (phase : Phase) → (get_or old cpu first_processor).phase ≡ phase → PhaseChange old old cpu phase
+change-nothing old cpu phase e = record {
+  size = refl;
+  here = ap (λ (p : Phase). let new : Processor = record { place = (get_or old cpu first_processor).place; phase = p } in new) e;
+  others =
+      λ q other. refl;
+  places = refl;
+}

@@ -37,7 +37,8 @@ unchanged_if : (b : Bool) → (b ≡ true → b ≡ false) → b ≡ false
 unchanged_if true f = f refl
 unchanged_if false f = refl
 
-pub can_be_lost : (cache : CacheView) (d : DiskView) (info : PageInfo) (x : PageValue) (tag : Tag) → PageFits cache d info x → info.tag ≡ Some tag → may_lose x.usage x.changed ≡ true → CanBeLost info x
+pub can_be_lost : (cache : CacheView) (d : DiskView) (info : PageInfo) (x : PageValue) (tag : Tag) → PageFits cache d info x → info.tag ≡ Some tag → may_lose x.usage x.changed ≡ true
+    → CanBeLost info x
 unfolding hint
 can_be_lost cache d info x tag s tagged lose =
     record { uptodate = parts.0; clean = parts.1; unchanged = unchanged }
@@ -46,10 +47,12 @@ can_be_lost cache d info x tag s tagged lose =
     usage = s.hinted ∙ (rw tagged refl)
 
     unchanged : x.changed ≡ false
-    unchanged = unchanged_if x.changed (λ c. s.volatile (usage ∙ never_lost info.uptodate info.dirty (is_none info.owner) (nat_eq info.pins 0) (nat_eq info.writers 0) (ap (λ u. may_lose u true) (sym usage) ∙ ap (λ b. may_lose x.usage b) (sym c) ∙ lose)))
+    unchanged = unchanged_if x.changed (λ c. s.volatile (usage
+        ∙ never_lost info.uptodate info.dirty (is_none info.owner) (nat_eq info.pins 0) (nat_eq info.writers 0) (ap (λ u. may_lose u true) (sym usage) ∙ ap (λ b. may_lose x.usage b) (sym c) ∙ lose)))
 
     parts : (info.uptodate ≡ true) × (info.dirty ≡ false)
-    parts = clean_if info.uptodate info.dirty (is_none info.owner) (nat_eq info.pins 0) (nat_eq info.writers 0) (ap (λ u. may_lose u false) (sym usage) ∙ ap (λ b. may_lose x.usage b) (sym unchanged) ∙ lose)
+    parts = clean_if info.uptodate info.dirty (is_none info.owner) (nat_eq info.pins 0) (nat_eq info.writers 0)
+        (ap (λ u. may_lose u false) (sym usage) ∙ ap (λ b. may_lose x.usage b) (sym unchanged) ∙ lose)
 
 -- the bytes that count, of a page with a tag, stay through what the host may do
 pub current_bytes-may : (cache : CacheView) (d : DiskView) (info : PageInfo) (x y : PageValue) (tag : Tag) → PageFits cache d info x → info.tag ≡ Some tag → MayBecome x y
@@ -59,7 +62,8 @@ current_bytes-may cache d info x y tag s tagged (inr (inl lost)) =
     let can = can_be_lost cache d info x tag s tagged lost.allowed in
     ap (λ (z : PageValue). current_bytes info.uptodate z.contents (backing cache d tag)) lost.value
     ∙ ap (λ u. current_bytes u Lost (backing cache d tag)) can.uptodate
-    ∙ sym (ap (λ u. current_bytes u x.contents (backing cache d tag)) can.uptodate ∙ ap (λ c. current_bytes true c (backing cache d tag)) (s.same tag tagged can.uptodate can.clean can.unchanged lost.there))
+    ∙ sym (ap (λ u. current_bytes u x.contents (backing cache d tag)) can.uptodate
+    ∙ ap (λ c. current_bytes true c (backing cache d tag)) (s.same tag tagged can.uptodate can.clean can.unchanged lost.there))
 current_bytes-may cache d info x y tag s tagged (inr (inr other)) = absurd (hint-tagged info tag tagged (sym s.hinted ∙ other.unused))
 
 -- of a page that isn't up to date what backs it counts, and of a lost one
@@ -82,9 +86,11 @@ pub record SameCurrent (old : Parts) (v : StorageView) (d : DiskView) (new : Par
   pub infos : (i : ℕ) → i ≢ page → info_at new.pages i ≡ info_at old.pages i
   pub values : (i : ℕ) → i ≢ page → MayBecome (v.values i) (w.values i)
 
-pub current-other : (old new : Parts) (v w : StorageView) (d e : DiskView) (page : ℕ) (tag : Tag) → SameCurrent old v d new w e page → IsTag old.cache tag → page_of old.cache tag ≢ Some page → page_of new.cache tag ≡ page_of old.cache tag
+pub current-other : (old new : Parts) (v w : StorageView) (d e : DiskView) (page : ℕ) (tag : Tag) → SameCurrent old v d new w e page → IsTag old.cache tag → page_of old.cache tag ≢ Some page
+    → page_of new.cache tag ≡ page_of old.cache tag
     → current new w e tag ≡ current old v d tag
-current-other old new v w d e page tag k is other same = ap (λ o. current_at new w o (backing new.cache e tag)) same ∙ ap (current_at new w (page_of old.cache tag)) (backing-same old.cache new.cache d e tag k.files k.swap k.blocks) ∙ of (page_of old.cache tag) refl
+current-other old new v w d e page tag k is other same = ap (λ o. current_at new w o (backing new.cache e tag)) same
+    ∙ ap (current_at new w (page_of old.cache tag)) (backing-same old.cache new.cache d e tag k.files k.swap k.blocks) ∙ of (page_of old.cache tag) refl
   where
     of : (o : Option ℕ) → page_of old.cache tag ≡ o → current_at new w o (backing old.cache d tag) ≡ current_at old v o (backing old.cache d tag)
     of None z = refl

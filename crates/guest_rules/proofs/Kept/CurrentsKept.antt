@@ -22,7 +22,8 @@ KeepsCurrent old v d new w e = (tag : Tag) → IsTag old.cache tag → current n
 -- no page's tag changes
 pub current-kept : (old new : Parts) (v w : StorageView) (d e : DiskView) (page : ℕ) → SameCurrent old v d new w e page → new.cache ≡ old.cache
     → ((tag : Tag) → (info_at old.pages page).tag ≡ Some tag
-    → current_bytes (info_at new.pages page).uptodate (w.values page).contents (backing old.cache d tag) ≡ current_bytes (info_at old.pages page).uptodate (v.values page).contents (backing old.cache d tag))
+    → current_bytes (info_at new.pages page).uptodate (w.values page).contents (backing old.cache d tag)
+    ≡ current_bytes (info_at old.pages page).uptodate (v.values page).contents (backing old.cache d tag))
     → KeepsCurrent old v d new w e
 current-kept old new v w d e page k cache here tag is = of (page_of old.cache tag) refl
   where
@@ -58,7 +59,8 @@ current-begun old new v w d e page tag k index bare none stale t is = elim (case
 
 -- a page with a tag is freed, whose bytes don't count
 pub current-freed : (old new : Parts) (v w : StorageView) (d e : DiskView) (page : ℕ) (tag : Tag) → SameCurrent old v d new w e page → IndexChange old.cache new.cache tag None
-    → (info_at old.pages page).tag ≡ Some tag → current_bytes (info_at old.pages page).uptodate (v.values page).contents (backing old.cache d tag) ≡ backing old.cache d tag → KeepsCurrent old v d new w e
+    → (info_at old.pages page).tag ≡ Some tag → current_bytes (info_at old.pages page).uptodate (v.values page).contents (backing old.cache d tag) ≡ backing old.cache d tag
+    → KeepsCurrent old v d new w e
 current-freed old new v w d e page tag k index tagged behind t is = elim (cases_tag t tag) [
   | inl z ↦
       ap (λ o. current_at new w o (backing new.cache e t)) (ap (page_of new.cache) z ∙ index.here)
@@ -71,7 +73,8 @@ current-freed old new v w d e page tag k index tagged behind t is = elim (cases_
       current-other old new v w d e page t k is (λ q. n (let both : Some t ≡ Some tag = sym (k.pages.found page t is q).1 ∙ tagged in cc)) (index.others t is n)
 ]
 
-pub FlatFit-same : (state : FlatState) (g h : GuestState) (v w : StorageView) (d e : DiskView) → FlatFit state g v d → h.plan ≡ g.plan → h.parts.cache.files ≡ g.parts.cache.files → h.parts.cache.slots ≡ g.parts.cache.slots
+pub FlatFit-same : (state : FlatState) (g h : GuestState) (v w : StorageView) (d e : DiskView) → FlatFit state g v d → h.plan ≡ g.plan → h.parts.cache.files ≡ g.parts.cache.files
+    → h.parts.cache.slots ≡ g.parts.cache.slots
     → KeepsCurrent g.parts v d h.parts w e → FlatFit state h w e
 FlatFit-same state g h v w d e f plan files slots same = record {
   lengths = rw plan f.lengths;

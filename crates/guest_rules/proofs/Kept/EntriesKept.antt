@@ -9,10 +9,9 @@ use Rattle.guest_pages.specs.PagesView.{free_info, info_at}
 use Rattle.guest_maps.specs.declared.slot.Pte.{Pte}
 use Rattle.guest_maps.specs.declared.slot.Slot.{Slot}
 use Rattle.guest_maps.specs.declared.slot.Shown.{Shown}
-use Rattle.guest_maps.specs.MapsView.{MapsView, slot_at, entry_at, place_at, tag_in, tag_at, has_page, stores_to, with_entry, without_entries_of, with_slot, with_mapping}
-use Rattle.guest_maps.specs.MapsLaws.{place_exact, slots-with_entry, entry_at-with_entry_other, slots-without_entries_of, writers_showing-without_same, writers_showing-without_other, slot_at-with_mapping_other}
+use Rattle.guest_maps.specs.MapsView.{MapsView, slot_at, entry_at, place_at, tag_in, tag_at, slot_has_page, stores_to, with_entry, without_entries_of, with_slot, with_slot_mapped, one_if}
+use Rattle.guest_maps.specs.Laws.MapsLaws.{entry_place_exact, slots-with_entry, entry_at-with_entry_other, slots-without_entries_of, writers_showing-without_same, writers_showing-without_other, slot_at-with_mapping_other}
 use Rattle.guest_rules.specs.declared.parts.Parts.{Parts}
-use Rattle.guest_rules.specs.Rows.{one_if}
 use Rattle.guest_rules.specs.Turns.{slot_writable}
 use Rattle.guest_rules.specs.Fit.{IsEntry, EntriesFit}
 use Rattle.guest_rules.proofs.Cases.TurnCases.{CanBeSet}
@@ -24,11 +23,12 @@ abbrev pub StillShown : Parts → Parts → ℕ → Type 0
 StillShown old new page =
     (tag : Tag) → (info_at old.pages page).tag ≡ Some tag → (info_at old.pages page).uptodate ≡ true → ((info_at new.pages page).tag ≡ Some tag) × ((info_at new.pages page).uptodate ≡ true)
 
-pub IsEntry-kept : (old new : Parts) (slot index : ℕ) (pte : Pte) → IsEntry old slot index pte → slot_at new.maps slot ≡ slot_at old.maps slot → StillShown old new pte.page → IsEntry new slot index pte
+pub IsEntry-kept : (old new : Parts) (slot index : ℕ) (pte : Pte) → IsEntry old slot index pte → slot_at new.maps slot ≡ slot_at old.maps slot → StillShown old new pte.page
+    → IsEntry new slot index pte
 IsEntry-kept old new slot index pte k same shows =
     let now = shows k.tag k.tagged k.uptodate in
     record {
-      place = ap (λ (o : Option Slot). has_page o index) same ∙ k.place;
+      place = ap (λ (o : Option Slot). slot_has_page o index) same ∙ k.place;
       tag = k.tag;
       mapped = ap (λ (o : Option Slot). tag_in o slot index) same ∙ k.mapped;
       tagged = now.0;
@@ -46,7 +46,8 @@ still_shown old new page info change shows i tag t u = elim (cases_eq i page) [
 
 -- one page's info is another, and what shows it stays
 pub EntriesFit-info : (old new : Parts) (page : ℕ) (info : PageInfo) → EntriesFit old → InfoChange old.pages new.pages page info → new.maps ≡ old.maps
-    → ((tag : Tag) → (info_at old.pages page).tag ≡ Some tag → (info_at old.pages page).uptodate ≡ true → (info.tag ≡ Some tag) × (info.uptodate ≡ true)) → info.writers ≡ (info_at old.pages page).writers → EntriesFit new
+    → ((tag : Tag) → (info_at old.pages page).tag ≡ Some tag → (info_at old.pages page).uptodate ≡ true → (info.tag ≡ Some tag) × (info.uptodate ≡ true))
+    → info.writers ≡ (info_at old.pages page).writers → EntriesFit new
 EntriesFit-info old new page info f change maps shows writers = record {
   entry = λ slot index pte lt e.
       IsEntry-kept old new slot index pte (f.entry slot index pte lt (rw maps at e)) (ap (λ (m : MapsView). slot_at m slot) maps) (still_shown old new page info change shows pte.page);
@@ -57,8 +58,10 @@ EntriesFit-info old new page info f change maps shows writers = record {
 }
 
 -- the same where other places are pinned
-pub EntriesFit-pinned : (old new : Parts) (page : ℕ) (info : PageInfo) → EntriesFit old → InfoChange old.pages new.pages page info → new.maps.slots ≡ old.maps.slots → new.maps.entries ≡ old.maps.entries
-    → ((tag : Tag) → (info_at old.pages page).tag ≡ Some tag → (info_at old.pages page).uptodate ≡ true → (info.tag ≡ Some tag) × (info.uptodate ≡ true)) → info.writers ≡ (info_at old.pages page).writers → EntriesFit new
+pub EntriesFit-pinned : (old new : Parts) (page : ℕ) (info : PageInfo) → EntriesFit old → InfoChange old.pages new.pages page info → new.maps.slots ≡ old.maps.slots
+    → new.maps.entries ≡ old.maps.entries
+    → ((tag : Tag) → (info_at old.pages page).tag ≡ Some tag → (info_at old.pages page).uptodate ≡ true → (info.tag ≡ Some tag) × (info.uptodate ≡ true))
+    → info.writers ≡ (info_at old.pages page).writers → EntriesFit new
 EntriesFit-pinned old new page info f change slots entries shows writers = record {
   entry = λ slot index pte lt e.
       IsEntry-kept old new slot index pte (f.entry slot index pte lt (ap (λ xs. slice_index_or xs (place_at slot index) None) (sym entries) ∙ e)) (ap (λ xs. slice_index_or xs slot None) slots)
@@ -74,7 +77,8 @@ pub EntriesFit-freed : (old new : Parts) (page : ℕ) → EntriesFit old → Inf
 EntriesFit-freed old new page f change maps = record {
   entry = λ slot index pte lt e.
       let k = entry-without old.maps page slot index pte (rw maps at e) in
-      IsEntry-kept old new slot index pte (f.entry slot index pte lt k.was) (ap (λ (m : MapsView). slot_at m slot) maps ∙ ap (λ xs. slot_at (record old.maps { slots = xs }) slot) (slots-without_entries_of old.maps page))
+      IsEntry-kept old new slot index pte (f.entry slot index pte lt k.was)
+      (ap (λ (m : MapsView). slot_at m slot) maps ∙ ap (λ xs. slot_at (record old.maps { slots = xs }) slot) (slots-without_entries_of old.maps page))
       (λ tag t u. rw (change.others pte.page k.other) (t, u));
   writers = λ i. elim (cases_eq i page) [
     | inl z ↦ rw (z, change.here, maps) (sym (writers_showing-without_same old.maps page))
@@ -103,9 +107,9 @@ EntriesFit-mapped old new slot index page writes tag f k change maps = record {
       | inl y ↦
           let is : Some one ≡ Some pte = sym (entry_at-set old.maps slot index (Some one) below) ∙ ap (λ m. entry_at m slot index) (sym maps) ∙ (λ p. entry_at new.maps (sym z p) (sym y p)) ∙ e in
           subst (λ q. IsEntry new s i q) (some_exact is) (rw (z, y) mine)
-      | inr m ↦ left s i pte lt (λ q. m (place_exact s slot i index lt k.index_below q).1) e
+      | inr m ↦ left s i pte lt (λ q. m (entry_place_exact s slot i index lt k.index_below q).1) e
     ]
-    | inr m ↦ left s i pte lt (λ q. m (place_exact s slot i index lt k.index_below q).0) e
+    | inr m ↦ left s i pte lt (λ q. m (entry_place_exact s slot i index lt k.index_below q).0) e
   ];
   writers = λ i. elim (cases_eq i page) [
     | inl z ↦ rw (z, change.here, maps) (ap (λ n. n + one_if writes) (f.writers page) ∙ sym (writers-with_entry_same old.maps slot index page writes below k.can))
@@ -130,7 +134,7 @@ EntriesFit-mapped old new slot index page writes tag f k change maps = record {
 
     mine : IsEntry new slot index one
     mine = record {
-      place = ap (λ (o : Option Slot). has_page o index) (same slot) ∙ place-tagged old.maps slot index tag k.mapped;
+      place = ap (λ (o : Option Slot). slot_has_page o index) (same slot) ∙ place-tagged old.maps slot index tag k.mapped;
       tag = tag;
       mapped = ap (λ (o : Option Slot). tag_in o slot index) (same slot) ∙ k.mapped;
       tagged = (shows page tag k.tagged k.uptodate).0;
@@ -143,12 +147,13 @@ EntriesFit-mapped old new slot index page writes tag f k change maps = record {
         IsEntry-kept old new s i pte (f.entry s i pte lt (sym (entry_at-with_entry_other old.maps slot index s i (Some one) apart) ∙ ap (λ m. entry_at m s i) (sym maps) ∙ e)) (same s) (shows pte.page)
 
 -- a slot that was free has a mapping
-pub EntriesFit-new : (old new : Parts) (slot process number count : ℕ) (shown : Shown) → EntriesFit old → slot_at old.maps slot ≡ None → new ≡ record old { maps = with_mapping old.maps slot process number shown count } → EntriesFit new
-unfolding with_mapping with_slot
+pub EntriesFit-new : (old new : Parts) (slot process number count : ℕ) (shown : Shown) → EntriesFit old → slot_at old.maps slot ≡ None
+    → new ≡ record old { maps = with_slot_mapped old.maps slot process number shown count } → EntriesFit new
+unfolding with_slot_mapped with_slot
 EntriesFit-new old new slot process number count shown f free is = rw is (record {
   entry = λ s i pte lt e.
       let was = f.entry s i pte lt e in
-      let n : s ≢ slot = λ z. let bad : false ≡ true = ap (λ (o : Option Slot). has_page o i) (sym free) ∙ ap (λ q. has_page (slot_at old.maps q) i) (sym z) ∙ was.place in cc in
+      let n : s ≢ slot = λ z. let bad : false ≡ true = ap (λ (o : Option Slot). slot_has_page o i) (sym free) ∙ ap (λ q. slot_has_page (slot_at old.maps q) i) (sym z) ∙ was.place in cc in
       IsEntry-kept old _ s i pte was (slot_at-with_mapping_other old.maps slot s process number shown count n) (λ tag t u. (t, u));
   writers = f.writers;
 })

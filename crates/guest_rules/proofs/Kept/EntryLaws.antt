@@ -7,10 +7,9 @@ use Rattle.std.proofs.lemmas.List.{length-map}
 use Rattle.cmm_types.specs.declared.page.Tag.{Tag}
 use Rattle.guest_maps.specs.declared.slot.Pte.{Pte}
 use Rattle.guest_maps.specs.declared.slot.Slot.{Slot}
-use Rattle.guest_maps.specs.MapsView.{MapsView, slot_at, place_at, entry_at, has_page, tag_of, tag_in, tag_at, IsPlace, shows, stores_to, writers_showing, unless_shows, one_if as one_where, with_entry, without_entries_of}
-use Rattle.guest_maps.specs.MapsLaws.{entry_at-without_entries_of}
+use Rattle.guest_maps.specs.MapsView.{MapsView, slot_at, place_at, entry_at, slot_has_page, tag_of, tag_in, tag_at, IsPlace, shows, stores_to, writers_showing, unless_shows, one_if as one_where, with_entry, without_entries_of, one_if}
+use Rattle.guest_maps.specs.Laws.MapsLaws.{entry_at-without_entries_of}
 use Rattle.guest_maps.specs.EntryCounts.{count_by-set, count_by-positive}
-use Rattle.guest_rules.specs.Rows.{one_if}
 use Rattle.guest_rules.proofs.Cases.TurnCases.{CanBeSet}
 
 -- a place with a tag is one
@@ -21,7 +20,7 @@ place-tagged maps slot index tag e = of (slot_at maps slot) e
     test true t x = refl
     test false t x = let bad : None ≡ Some tag = x in absurd cc
 
-    of : (o : Option Slot) → tag_in o slot index ≡ Some tag → has_page o index ≡ true
+    of : (o : Option Slot) → tag_in o slot index ≡ Some tag → slot_has_page o index ≡ true
     of None z = let bad : None ≡ Some tag = z in absurd cc
     of (Some mapping) z = test (nat_lt index mapping.count) (tag_of mapping.shown slot index) z
 

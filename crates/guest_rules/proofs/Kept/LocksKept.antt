@@ -10,12 +10,13 @@ use Rattle.guest_rules.specs.declared.parts.Parts.{Parts}
 use Rattle.guest_rules.specs.declared.processor.Phase.{Phase}
 use Rattle.guest_rules.specs.declared.processor.Phase.TheVariants.{Start, Fill, Sync as AtSync, SyncWrite}
 use Rattle.guest_rules.specs.declared.processor.Processor.{Processor}
-use Rattle.guest_rules.specs.GuestState.{GuestState, at_start, processor_at}
+use Rattle.guest_rules.specs.GuestState.{GuestState, first_processor, processor_at}
 use Rattle.guest_rules.specs.Fit.{IsFilling, IsSyncing, IsWriting, HasLocked, LocksFit, NeedsPage}
 use Rattle.guest_rules.proofs.Kept.Changes.{InfoChange, PhaseChange}
 
 -- what another processor fills is as it was
-pub filling_other : (g h : GuestState) (q i : ℕ) → h.plan ≡ g.plan → processor_at h q ≡ processor_at g q → length h.parts.pages.infos ≡ length g.parts.pages.infos → info_at h.parts.pages i ≡ info_at g.parts.pages i → IsFilling g q i → IsFilling h q i
+pub filling_other : (g h : GuestState) (q i : ℕ) → h.plan ≡ g.plan → processor_at h q ≡ processor_at g q → length h.parts.pages.infos ≡ length g.parts.pages.infos
+    → info_at h.parts.pages i ≡ info_at g.parts.pages i → IsFilling g q i → IsFilling h q i
 filling_other g h q i plan processor size info k = record {
   op = k.op;
   command = rw (plan, processor) k.command;
@@ -28,7 +29,8 @@ filling_other g h q i plan processor size info k = record {
 }
 
 -- another processor's sync is where it was
-pub syncing_other : (g h : GuestState) (q file index : ℕ) → h.plan ≡ g.plan → processor_at h q ≡ processor_at g q → length h.processors ≡ length g.processors → IsSyncing g q file index → IsSyncing h q file index
+pub syncing_other : (g h : GuestState) (q file index : ℕ) → h.plan ≡ g.plan → processor_at h q ≡ processor_at g q → length h.processors ≡ length g.processors → IsSyncing g q file index
+    → IsSyncing h q file index
 syncing_other g h q file index plan processor count k = record {
   cpu_below = rw count k.cpu_below;
   command = rw (plan, processor) k.command;
@@ -37,7 +39,8 @@ syncing_other g h q file index plan processor count k = record {
 }
 
 -- and so is what it writes back
-pub writing_other : (g h : GuestState) (q index i : ℕ) → h.plan ≡ g.plan → processor_at h q ≡ processor_at g q → length h.processors ≡ length g.processors → length h.parts.pages.infos ≡ length g.parts.pages.infos
+pub writing_other : (g h : GuestState) (q index i : ℕ) → h.plan ≡ g.plan → processor_at h q ≡ processor_at g q → length h.processors ≡ length g.processors
+    → length h.parts.pages.infos ≡ length g.parts.pages.infos
     → info_at h.parts.pages i ≡ info_at g.parts.pages i → IsWriting g q index i → IsWriting h q index i
 writing_other g h q index i plan processor count size info k = record {
   file = k.file;
@@ -159,7 +162,8 @@ LocksFit-step g h cpu page phase info f k = record {
 -- a processor in phase Start locks a page that nobody has locked
 pub LocksFit-begun : (g h : GuestState) (cpu page : ℕ) (op : Op) (info : PageInfo) (tag : Tag) → LocksFit g → h.plan ≡ g.plan → cpu < length g.processors → page < length g.parts.pages.infos
     → command_of g.plan cpu (processor_at g cpu).place ≡ Some op → NeedsPage op → (processor_at g cpu).phase ≡ Start → (info_at g.parts.pages page).owner ≡ None
-    → InfoChange g.parts.pages h.parts.pages page info → PhaseChange g.processors h.processors cpu (Fill page) → info.owner ≡ Some cpu → info.uptodate ≡ false → info.dirty ≡ false → info.tag ≡ Some tag → LocksFit h
+    → InfoChange g.parts.pages h.parts.pages page info → PhaseChange g.processors h.processors cpu (Fill page) → info.owner ≡ Some cpu → info.uptodate ≡ false → info.dirty ≡ false
+    → info.tag ≡ Some tag → LocksFit h
 LocksFit-begun g h cpu page op info tag f plan lt below command needs start unlocked change phase owner stale clean tagged =
     LocksFit-step g h cpu page (Fill page) info f (record {
       plan = plan;
@@ -185,7 +189,8 @@ LocksFit-begun g h cpu page op info tag f plan lt below command needs start unlo
     }
 
 -- a page isn't locked any more, and its processor is in phase Start
-pub LocksFit-released : (g h : GuestState) (cpu page : ℕ) (info : PageInfo) → LocksFit g → h.plan ≡ g.plan → InfoChange g.parts.pages h.parts.pages page info → PhaseChange g.processors h.processors cpu Start → info.owner ≡ None
+pub LocksFit-released : (g h : GuestState) (cpu page : ℕ) (info : PageInfo) → LocksFit g → h.plan ≡ g.plan → InfoChange g.parts.pages h.parts.pages page info
+    → PhaseChange g.processors h.processors cpu Start → info.owner ≡ None
     → HasLocked g cpu page → LockInfo info → LocksFit h
 LocksFit-released g h cpu page info f plan change phase owner mine fits = LocksFit-step g h cpu page Start info f (record {
   plan = plan;
@@ -209,7 +214,8 @@ pub record SameLock (old new : PageInfo) : Type 0 where
   pub uptodate : new.uptodate ≡ old.uptodate
 
 -- a page's lock stays as it was
-pub LocksFit-kept : (g h : GuestState) (page : ℕ) (info : PageInfo) → LocksFit g → h.plan ≡ g.plan → h.processors ≡ g.processors → InfoChange g.parts.pages h.parts.pages page info → info.tag ≡ (info_at g.parts.pages page).tag
+pub LocksFit-kept : (g h : GuestState) (page : ℕ) (info : PageInfo) → LocksFit g → h.plan ≡ g.plan → h.processors ≡ g.processors → InfoChange g.parts.pages h.parts.pages page info
+    → info.tag ≡ (info_at g.parts.pages page).tag
     → info.owner ≡ (info_at g.parts.pages page).owner → info.uptodate ≡ (info_at g.parts.pages page).uptodate → (info.uptodate ≡ false → info.dirty ≡ false) → LocksFit h
 LocksFit-kept g h page info f plan processors change tags owners uptodates clean = record {
   stale_clean = λ i. (infos i).clean;
@@ -252,7 +258,7 @@ LocksFit-kept g h page info f plan processors change tags owners uptodates clean
     infos = lock_infos g h page info f change (record { clean = clean; stale = λ t e none. uptodates ∙ f.stale page t (sym tags ∙ e) (sym owners ∙ none) })
 
     syncing : (q file index : ℕ) → IsSyncing g q file index → IsSyncing h q file index
-    syncing q file index was = syncing_other g h q file index plan (ap (λ ps. get_or ps q at_start) processors) (ap (λ (ps : List Processor). length ps) processors) was
+    syncing q file index was = syncing_other g h q file index plan (ap (λ ps. get_or ps q first_processor) processors) (ap (λ (ps : List Processor). length ps) processors) was
 
 -- a page that isn't locked changes, and isn't locked
 pub LocksFit-unlocked : (g h : GuestState) (page : ℕ) (info : PageInfo) → LocksFit g → h.plan ≡ g.plan → h.processors ≡ g.processors → InfoChange g.parts.pages h.parts.pages page info
@@ -275,7 +281,7 @@ LocksFit-unlocked g h page info f plan processors change none owner fits = recor
 }
   where
     same : (q : ℕ) → processor_at h q ≡ processor_at g q
-    same q = ap (λ ps. get_or ps q at_start) processors
+    same q = ap (λ ps. get_or ps q first_processor) processors
 
     count : length h.processors ≡ length g.processors
     count = ap (λ (ps : List Processor). length ps) processors

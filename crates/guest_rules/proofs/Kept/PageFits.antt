@@ -7,7 +7,7 @@ use Rattle.cmm_types.specs.declared.page.Tag.{Tag}
 use Rattle.cmm_types.specs.declared.page.Tag.TheVariants.{File, Anon}
 use Rattle.cmm_io.specs.DiskView.{DiskView, AreBlocks}
 use Rattle.essa_state.specs.PageValue.{PageValue, Bytes, IsValue, MayBecome, StandsWith, is_lost, is_blank}
-use Rattle.essa_state.specs.PageValueLaws.{MayBecome-is_value}
+use Rattle.essa_state.specs.Laws.PageValueLaws.{MayBecome-is_value}
 use Rattle.cmm_storage.specs.StorageView.{StorageView}
 use Rattle.guest_pages.specs.declared.info.PageInfo.{PageInfo}
 use Rattle.guest_pages.specs.PagesView.{PagesView, free_info, info_at}
@@ -57,7 +57,8 @@ pub backing-same : (old new : CacheView) (d e : DiskView) (tag : Tag) → new.fi
 backing-same old new d e (File file index) files swap blocks = rw (files, blocks) refl
 backing-same old new d e (Anon slot index) files swap blocks = λ i. backed (blocks i) (swap_block (files i) (position (holds_page slot index) (swap i)))
 
-pub PageFits-same : (old new : CacheView) (d e : DiskView) (info : PageInfo) (x : PageValue) → new.files ≡ old.files → new.swap ≡ old.swap → e.blocks ≡ d.blocks → PageFits old d info x → PageFits new e info x
+pub PageFits-same : (old new : CacheView) (d e : DiskView) (info : PageInfo) (x : PageValue) → new.files ≡ old.files → new.swap ≡ old.swap → e.blocks ≡ d.blocks → PageFits old d info x
+    → PageFits new e info x
 PageFits-same old new d e info x files swap blocks s = record {
   of_files = s.of_files;
   is_value = s.is_value;
@@ -97,7 +98,8 @@ EachPageFits-from parts v d size pins hints contents = record {
 }
 
 -- what holds of the free info and of each page below the count holds of every page
-pub every_info : (Fits : PageInfo → Type 0) (pages : PagesView) (count : ℕ) → length pages.infos ≡ count → Fits free_info → ((page : ℕ) → page < count → Fits (info_at pages page)) → (page : ℕ) → Fits (info_at pages page)
+pub every_info : (Fits : PageInfo → Type 0) (pages : PagesView) (count : ℕ) → length pages.infos ≡ count → Fits free_info → ((page : ℕ) → page < count → Fits (info_at pages page)) → (page : ℕ)
+    → Fits (info_at pages page)
 every_info Fits pages count size free each page = elim (cases_lt page count) [
   | inl below ↦ each page below
   | inr past ↦ subst Fits (sym (get_or_past pages.infos page free_info (omega (arith, size)))) free
@@ -111,7 +113,8 @@ HintsFit-from parts v d none fits = record {
   volatile = λ page below. (fits.each page below).volatile;
 }
 
-pub ContentsFit-from : (parts : Parts) (v : StorageView) (d : DiskView) → v.tells ≡ true → (blocks : List (List ℕ)) → d.blocks ≡ Some blocks → AreBlocks d.count d.blocks → EachPageFits parts v d → ContentsFit parts v d
+pub ContentsFit-from : (parts : Parts) (v : StorageView) (d : DiskView) → v.tells ≡ true → (blocks : List (List ℕ)) → d.blocks ≡ Some blocks → AreBlocks d.count d.blocks → EachPageFits parts v d
+    → ContentsFit parts v d
 ContentsFit-from parts v d tells blocks told are fits = record {
   tells = tells;
   told = (blocks, told);

@@ -4,7 +4,7 @@ use Rattle.std.proofs.lemmas.Bool.{cases_eq}
 use Rattle.cmm_types.specs.declared.page.Tag.{Tag}
 use Rattle.guest_pages.specs.declared.info.PageInfo.{PageInfo}
 use Rattle.guest_pages.specs.PagesView.{PagesView, free_info, info_at, AreDistinct}
-use Rattle.guest_pages.specs.PagesLaws.{Contains-first, Contains-later, Contains-cases}
+use Rattle.guest_pages.specs.Laws.PagesLaws.{Contains-first, Contains-later, Contains-cases}
 use Rattle.guest_cache.specs.CacheView.{IsTag, page_of}
 use Rattle.guest_rules.specs.declared.parts.Parts.{Parts}
 use Rattle.guest_rules.specs.Fit.{PagesFit}
@@ -15,7 +15,8 @@ other_page : (pages : PagesView) (p page : ℕ) (tag : Tag) → (info_at pages p
 other_page pages p page tag some none e = let bad : None ≡ Some tag = sym none ∙ ap (λ i. (info_at pages i).tag) e ∙ some in cc
 
 -- the next free page gets a tag that no page has
-pub PagesFit-begun : (old new : Parts) (page : ℕ) (rest : List ℕ) (info : PageInfo) (tag : Tag) → PagesFit old → old.pages.free ≡ page ∷ rest → new.pages.free ≡ rest → InfoChange old.pages new.pages page info
+pub PagesFit-begun : (old new : Parts) (page : ℕ) (rest : List ℕ) (info : PageInfo) (tag : Tag) → PagesFit old → old.pages.free ≡ page ∷ rest → new.pages.free ≡ rest
+    → InfoChange old.pages new.pages page info
     → IndexChange old.cache new.cache tag (Some page) → info.tag ≡ Some tag → IsTag old.cache tag → page_of old.cache tag ≡ None → PagesFit new
 PagesFit-begun old new page rest info tag f top popped change index tagged is none = record {
   once = rw popped once.1;

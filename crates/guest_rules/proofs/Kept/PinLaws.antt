@@ -9,7 +9,7 @@ use Rattle.cmm_types.specs.declared.command.TheConstants.{MAX_MAPPING_PAGES}
 use Rattle.cmm_types.specs.declared.page.Tag.{Tag}
 use Rattle.cmm_types.specs.declared.page.Tag.TheVariants.{File, Anon}
 use Rattle.guest_maps.specs.MapsView.{MapsView, place_at, pinned_at, tag_at, one_if, with_pinned}
-use Rattle.guest_maps.specs.MapsLaws.{place_exact, pinned_at-with_pinned_other}
+use Rattle.guest_maps.specs.Laws.MapsLaws.{entry_place_exact, pinned_at-with_pinned_other}
 use Rattle.guest_rules.specs.Fit.{pins_of, sum_below, same_tag, is_tag_of, pin_on, pins_within}
 
 -- ---- the pins of a mapping as a list
@@ -21,7 +21,8 @@ pub pins_of-at : (maps : MapsView) (slot count index : ℕ) (d : Bool) → index
 pins_of-at maps slot count index d below = get_or-map-range_with_len (pinned_at maps slot) 0 count index index d below (omega arith)
 
 -- a list of the same length and with the same pins
-pins_of-is : (maps : MapsView) (slot count : ℕ) (pins : List Bool) → length pins ≡ count → ((index : ℕ) (d : Bool) → index < count → pinned_at maps slot index ≡ get_or pins index d) → pins_of maps slot count ≡ pins
+pins_of-is : (maps : MapsView) (slot count : ℕ) (pins : List Bool) → length pins ≡ count → ((index : ℕ) (d : Bool) → index < count → pinned_at maps slot index ≡ get_or pins index d)
+    → pins_of maps slot count ≡ pins
 pins_of-is maps slot count pins size each =
     same_lists (pins_of maps slot count) pins (length-pins_of maps slot count ∙ sym size)
     (λ index d below. let within : index < count = rw (length-pins_of maps slot count) at below in pins_of-at maps slot count index d within ∙ each index d within)
@@ -34,7 +35,8 @@ pub pins_of-none : (maps : MapsView) (slot count : ℕ) → ((index : ℕ) → i
 pins_of-none maps slot count each =
     pins_of-is maps slot count (replicate count false) (length-replicate count false) (λ index d below. each index below ∙ sym (get_or-replicate count index false d below))
 
-pub pins_of-set : (old new : MapsView) (slot count at : ℕ) (pins : Bool) → at < count → pinned_at new slot at ≡ pins → ((index : ℕ) → index < count → index ≢ at → pinned_at new slot index ≡ pinned_at old slot index)
+pub pins_of-set : (old new : MapsView) (slot count at : ℕ) (pins : Bool) → at < count → pinned_at new slot at ≡ pins
+    → ((index : ℕ) → index < count → index ≢ at → pinned_at new slot index ≡ pinned_at old slot index)
     → pins_of new slot count ≡ set (pins_of old slot count) at pins
 pins_of-set old new slot count at pins below here others =
     pins_of-is new slot count (set (pins_of old slot count) at pins) (length-set (pins_of old slot count) at pins ∙ length-pins_of old slot count) each
@@ -57,7 +59,8 @@ pub record PinChange (old new : MapsView) (slot index : ℕ) (pins : Bool) : Typ
 place-within : (slot index slots places : ℕ) → slot < slots → index < MAX_MAPPING_PAGES → places ≡ slots * MAX_MAPPING_PAGES → place_at slot index < places
 place-within slot index slots places below within size = omega (arith, below, within, size)
 
-pub change-with_pinned : (maps : MapsView) (slot index slots : ℕ) (pins : Bool) → slot < slots → index < MAX_MAPPING_PAGES → length maps.pinned ≡ slots * MAX_MAPPING_PAGES → PinChange maps (with_pinned maps slot index pins) slot index pins
+pub change-with_pinned : (maps : MapsView) (slot index slots : ℕ) (pins : Bool) → slot < slots → index < MAX_MAPPING_PAGES → length maps.pinned ≡ slots * MAX_MAPPING_PAGES
+    → PinChange maps (with_pinned maps slot index pins) slot index pins
 unfolding with_pinned
 change-with_pinned maps slot index slots pins below within size = record {
   slots = refl;
@@ -65,7 +68,7 @@ change-with_pinned maps slot index slots pins below within size = record {
   pages = refl;
   size = length-set maps.pinned (place_at slot index) pins;
   here = get_or-set_same maps.pinned (place_at slot index) pins false (place-within slot index slots (length maps.pinned) below within size);
-  others = λ s i lt apart. pinned_at-with_pinned_other maps slot index s i pins (λ e. let k = place_exact s slot i index lt within e in apart k.0 k.1);
+  others = λ s i lt apart. pinned_at-with_pinned_other maps slot index s i pins (λ e. let k = entry_place_exact s slot i index lt within e in apart k.0 k.1);
 }
 
 -- ---- sums
@@ -141,11 +144,13 @@ pin_on-one maps tag slot index pinned mapped =
     ∙ ap (λ b. one_if (true && b)) (same_tag-itself tag)
 
 -- a place that is as it was counts as it did
-pub pin_on-same : (old new : MapsView) (tag : Tag) (slot index : ℕ) → pinned_at new slot index ≡ pinned_at old slot index → tag_at new slot index ≡ tag_at old slot index → pin_on new tag slot index ≡ pin_on old tag slot index
+pub pin_on-same : (old new : MapsView) (tag : Tag) (slot index : ℕ) → pinned_at new slot index ≡ pinned_at old slot index → tag_at new slot index ≡ tag_at old slot index
+    → pin_on new tag slot index ≡ pin_on old tag slot index
 pin_on-same old new tag slot index pinned mapped =
     ap (λ a. one_if (a && is_tag_of (tag_at new slot index) tag)) pinned ∙ ap (λ o. one_if (pinned_at old slot index && is_tag_of o tag)) mapped
 
-pub pins_within-same : (old new : MapsView) (tag : Tag) (slots pages : ℕ) → ((slot index : ℕ) → slot < slots → index < pages → pin_on new tag slot index ≡ pin_on old tag slot index) → pins_within new tag slots pages ≡ pins_within old tag slots pages
+pub pins_within-same : (old new : MapsView) (tag : Tag) (slots pages : ℕ) → ((slot index : ℕ) → slot < slots → index < pages → pin_on new tag slot index ≡ pin_on old tag slot index)
+    → pins_within new tag slots pages ≡ pins_within old tag slots pages
 unfolding pins_within
 pins_within-same old new tag slots pages each =
     sum_below-same (λ slot. sum_below (pin_on new tag slot) pages) (λ slot. sum_below (pin_on old tag slot) pages) slots
@@ -161,12 +166,15 @@ pins_within-one old new tag slots pages slot index a b lt below others here =
     (λ s _ n. sum_below-same (pin_on new tag s) (pin_on old tag s) pages (λ i h. others s i h (λ z _. n z)))
     (sum_below-one (pin_on new tag slot) (pin_on old tag slot) index pages a b below (λ i h m. others slot i h (λ _ y. m y)) here)
 
-pub pins_within-none : (maps : MapsView) (tag : Tag) (slots pages : ℕ) → ((slot index : ℕ) → index < pages → pinned_at maps slot index ≡ true → tag_at maps slot index ≡ Some tag → ⊥) → pins_within maps tag slots pages ≡ 0
+pub pins_within-none : (maps : MapsView) (tag : Tag) (slots pages : ℕ) → ((slot index : ℕ) → index < pages → pinned_at maps slot index ≡ true → tag_at maps slot index ≡ Some tag → ⊥)
+    → pins_within maps tag slots pages ≡ 0
 unfolding pins_within
 pins_within-none maps tag slots pages none =
-    sum_below-none (λ slot. sum_below (pin_on maps tag slot) pages) slots (λ slot _. sum_below-none (pin_on maps tag slot) pages (λ index below. pin_on-none maps tag slot index (none slot index below)))
+    sum_below-none (λ slot. sum_below (pin_on maps tag slot) pages) slots
+    (λ slot _. sum_below-none (pin_on maps tag slot) pages (λ index below. pin_on-none maps tag slot index (none slot index below)))
 
-pub pins_within-some : (maps : MapsView) (tag : Tag) (slots pages slot index : ℕ) → slot < slots → index < pages → pinned_at maps slot index ≡ true → tag_at maps slot index ≡ Some tag → 1 ≤ pins_within maps tag slots pages
+pub pins_within-some : (maps : MapsView) (tag : Tag) (slots pages slot index : ℕ) → slot < slots → index < pages → pinned_at maps slot index ≡ true → tag_at maps slot index ≡ Some tag
+    → 1 ≤ pins_within maps tag slots pages
 unfolding pins_within
 pins_within-some maps tag slots pages slot index lt below pinned mapped =
     omega (arith, sum_below-at (λ s. sum_below (pin_on maps tag s) pages) slot slots lt, sum_below-at (pin_on maps tag slot) index pages below, pin_on-one maps tag slot index pinned mapped)
@@ -174,7 +182,8 @@ pins_within-some maps tag slots pages slot index lt below pinned mapped =
 pub pins_within-most : (maps : MapsView) (tag : Tag) (slots pages : ℕ) → pins_within maps tag slots pages ≤ slots * pages
 unfolding pins_within
 pins_within-most maps tag slots pages =
-    sum_below-most (λ slot. sum_below (pin_on maps tag slot) pages) pages slots (λ slot _. of (sum_below-most (pin_on maps tag slot) 1 pages (λ index _. one_if-most (pinned_at maps slot index && is_tag_of (tag_at maps slot index) tag))))
+    sum_below-most (λ slot. sum_below (pin_on maps tag slot) pages) pages slots
+    (λ slot _. of (sum_below-most (pin_on maps tag slot) 1 pages (λ index _. one_if-most (pinned_at maps slot index && is_tag_of (tag_at maps slot index) tag))))
   where
     of : {n : ℕ} → n ≤ pages * 1 → n ≤ pages
     of h = omega (arith, h)

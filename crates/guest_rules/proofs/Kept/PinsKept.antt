@@ -12,8 +12,8 @@ use Rattle.guest_pages.specs.declared.info.PageInfo.{PageInfo}
 use Rattle.guest_pages.specs.PagesView.{free_info, info_at}
 use Rattle.guest_cache.specs.CacheView.{CacheView, IsTag, page_of}
 use Rattle.guest_maps.specs.declared.slot.Shown.{Shown}
-use Rattle.guest_maps.specs.MapsView.{MapsView, IsPlace, slot_at, has_page, place_at, pinned_at, tag_in, tag_at, with_slot, with_mapping}
-use Rattle.guest_maps.specs.MapsLaws.{slot_at-with_mapping_other, length-with_mapping}
+use Rattle.guest_maps.specs.MapsView.{MapsView, IsPlace, slot_at, slot_has_page, place_at, pinned_at, tag_in, tag_at, with_slot, with_slot_mapped}
+use Rattle.guest_maps.specs.Laws.MapsLaws.{slot_at-with_mapping_other, length-with_mapping}
 use Rattle.guest_rules.specs.declared.parts.Parts.{Parts}
 use Rattle.guest_rules.specs.Rows.{pins_after}
 use Rattle.guest_rules.specs.Fit.{PagesFit, SlotsFit, PinsFit, IsKept, pin_on, pins_within, pins_on}
@@ -35,7 +35,8 @@ pub PinsFit-from : (parts : Parts) (v : StorageView) (d : DiskView) → PinsStan
 PinsFit-from parts v d pins fits = record {
   counted = pins.counted;
   kept = pins.kept;
-  of_files = every_info (λ info. (tag : Tag) → info.tag ≡ Some tag → (file : ℕ) × (index : ℕ) × (tag ≡ File file index)) parts.pages v.pages fits.size (λ tag t. absurd cc) (λ page below. (fits.each page below).of_files);
+  of_files = every_info (λ info. (tag : Tag) → info.tag ≡ Some tag → (file : ℕ) × (index : ℕ) × (tag ≡ File file index)) parts.pages v.pages fits.size (λ tag t. absurd cc)
+      (λ page below. (fits.each page below).of_files);
 }
 
 -- ---- the places are the same
@@ -53,7 +54,8 @@ tag-same old new slot index slots = ap (λ xs. tag_in (slice_index_or xs slot No
 
 pub pins_on-same : (old new : MapsView) (tag : Tag) → SamePlaces old new → pins_on new tag ≡ pins_on old tag
 pins_on-same old new tag same =
-    pins_within-same old new tag (length new.slots) MAX_MAPPING_PAGES (λ slot index _ _. pin_on-same old new tag slot index (pinned-same old new slot index same) (tag-same old new slot index same.slots))
+    pins_within-same old new tag (length new.slots) MAX_MAPPING_PAGES
+    (λ slot index _ _. pin_on-same old new tag slot index (pinned-same old new slot index same) (tag-same old new slot index same.slots))
     ∙ ap (λ xs. pins_within old tag (length xs) MAX_MAPPING_PAGES) same.slots
 
 -- what was pinned under a tag was so before
@@ -61,7 +63,8 @@ record WasPinned (old : Parts) (slot index : ℕ) (tag : Tag) : Type 0 where
   pinned : pinned_at old.maps slot index ≡ true
   mapped : tag_at old.maps slot index ≡ Some tag
 
-pinned_before : (old : Parts) (new : MapsView) (slot index : ℕ) (tag : Tag) → SamePlaces old.maps new → pinned_at new slot index ≡ true → tag_at new slot index ≡ Some tag → WasPinned old slot index tag
+pinned_before : (old : Parts) (new : MapsView) (slot index : ℕ) (tag : Tag) → SamePlaces old.maps new → pinned_at new slot index ≡ true → tag_at new slot index ≡ Some tag
+    → WasPinned old slot index tag
 pinned_before old new slot index tag same pinned mapped =
     record { pinned = sym (pinned-same old.maps new slot index same) ∙ pinned; mapped = sym (tag-same old.maps new slot index same.slots) ∙ mapped }
 
@@ -102,7 +105,8 @@ never-pinned state old page tag f slots tagged none slot index below pinned mapp
     omega (arith, some, f.counted page tag tagged, none)
 
 -- a page whose tag is pinned nowhere is free
-pub PinsStand-freed : (state : FlatState) (old new : Parts) (page : ℕ) (tag : Tag) → PinsStand old → PagesFit old → SlotsFit state old → (info_at old.pages page).tag ≡ Some tag → (info_at old.pages page).pins ≡ 0
+pub PinsStand-freed : (state : FlatState) (old new : Parts) (page : ℕ) (tag : Tag) → PinsStand old → PagesFit old → SlotsFit state old → (info_at old.pages page).tag ≡ Some tag
+    → (info_at old.pages page).pins ≡ 0
     → InfoChange old.pages new.pages page free_info → IndexChange old.cache new.cache tag None → SamePlaces old.maps new.maps → PinsStand new
 PinsStand-freed state old new page tag f pages slots tagged none change index same = record {
   counted = λ i t e. elim (cases_eq i page) [
@@ -119,7 +123,8 @@ PinsStand-freed state old new page tag f pages slots tagged none change index sa
 }
 
 -- a free page has a tag that is on no page
-pub PinsStand-begun : (state : FlatState) (old new : Parts) (page : ℕ) (tag : Tag) (info : PageInfo) → PinsStand old → PagesFit old → SlotsFit state old → info_at old.pages page ≡ free_info → page_of old.cache tag ≡ None
+pub PinsStand-begun : (state : FlatState) (old new : Parts) (page : ℕ) (tag : Tag) (info : PageInfo) → PinsStand old → PagesFit old → SlotsFit state old → info_at old.pages page ≡ free_info
+    → page_of old.cache tag ≡ None
     → info.tag ≡ Some tag → info.pins ≡ 0 → InfoChange old.pages new.pages page info → IndexChange old.cache new.cache tag (Some page) → SamePlaces old.maps new.maps → PinsStand new
 PinsStand-begun state old new page tag info f pages slots bare none tagged pins change index same = record {
   counted = λ i t e. elim (cases_eq i page) [
@@ -172,7 +177,8 @@ counted-after : (pins : Bool) (old new here was : ℕ) → here ≡ (if_pins pin
 counted-after true old new here was h w each = let k = each 0 1 (omega (arith, h, w)) in omega (arith, k)
 counted-after false old new here was h w each = let k = each 1 0 (omega (arith, h, w)) in omega (arith, k)
 
-pub PinsStand-pinned : (old new : Parts) (page slot index : ℕ) (pins : Bool) (tag : Tag) (info : PageInfo) → PinsStand old → PagesFit old → PinStep old new page slot index pins tag info → PinsStand new
+pub PinsStand-pinned : (old new : Parts) (page slot index : ℕ) (pins : Bool) (tag : Tag) (info : PageInfo) → PinsStand old → PagesFit old → PinStep old new page slot index pins tag info
+    → PinsStand new
 PinsStand-pinned old new page slot index pins tag info f pages k = record {
   counted = λ i t e. elim (cases_eq i page) [
     | inl z ↦
@@ -247,8 +253,9 @@ PinsStand-pinned old new page slot index pins tag info f pages k = record {
 -- ---- a file is mapped
 
 -- a slot that was free has a mapping, of which no page is pinned
-pub PinsFit-new : (state : FlatState) (old new : Parts) (slot process number count : ℕ) (shown : Shown) → PinsFit old → SlotsFit state old → slot_at old.maps slot ≡ None → new ≡ record old { maps = with_mapping old.maps slot process number shown count } → PinsFit new
-unfolding with_mapping with_slot
+pub PinsFit-new : (state : FlatState) (old new : Parts) (slot process number count : ℕ) (shown : Shown) → PinsFit old → SlotsFit state old → slot_at old.maps slot ≡ None
+    → new ≡ record old { maps = with_slot_mapped old.maps slot process number shown count } → PinsFit new
+unfolding with_slot_mapped with_slot
 PinsFit-new state old new slot process number count shown f slots free is = rw is (record {
   counted = λ page tag e. f.counted page tag e ∙ sym (ap (λ n. pins_within now tag n MAX_MAPPING_PAGES) (length-with_mapping old.maps slot process number shown count)
       ∙ pins_within-same old.maps now tag (length old.maps.slots) MAX_MAPPING_PAGES (λ s i _ below. each tag s i below));
@@ -260,12 +267,12 @@ PinsFit-new state old new slot process number count shown f slots free is = rw i
 })
   where
     now : MapsView
-    now = with_mapping old.maps slot process number shown count
+    now = with_slot_mapped old.maps slot process number shown count
 
     apart : (s i : ℕ) → i < MAX_MAPPING_PAGES → pinned_at old.maps s i ≡ true → s ≢ slot
     apart s i below p z =
         let place : IsPlace old.maps s i = slots.placed s i below p in
-        let bad : false ≡ true = ap (λ o. has_page o i) (sym free) ∙ ap (λ q. has_page (slot_at old.maps q) i) (sym z) ∙ place in cc
+        let bad : false ≡ true = ap (λ o. slot_has_page o i) (sym free) ∙ ap (λ q. slot_has_page (slot_at old.maps q) i) (sym z) ∙ place in cc
 
     each : (tag : Tag) (s i : ℕ) → i < MAX_MAPPING_PAGES → pin_on now tag s i ≡ pin_on old.maps tag s i
     each tag s i below = elim (cases_eq s slot) [

@@ -5,8 +5,8 @@ use Rattle.guest_pages.specs.declared.info.PageInfo.{PageInfo}
 use Rattle.guest_pages.specs.PagesView.{PagesView, info_at, free_info, with_info, with_owner, with_uptodate, with_dirty, with_pins, with_writers, popped, pushed}
 use Rattle.guest_cache.specs.CacheView.{without_page}
 use Rattle.guest_rules.specs.declared.parts.Parts.{Parts}
-use Rattle.guest_maps.specs.MapsView.{with_entry, without_entries_of, with_pinned}
-use Rattle.guest_rules.specs.Rows.{freed, handled, filled, with_change, mapped, pinned, pins_after, one_if}
+use Rattle.guest_maps.specs.MapsView.{with_entry, without_entries_of, with_pinned, one_if}
+use Rattle.guest_rules.specs.Rows.{freed, handled, filled, with_change, mapped, pinned, pins_after}
 use Rattle.guest_rules.specs.Turns.{begun}
 use Rattle.guest_rules.proofs.Kept.Changes.{InfoChange, change-with_info, InfoChange-trans}
 
@@ -85,7 +85,8 @@ abbrev pub changed_info : Bool → PageInfo → PageInfo
 changed_info true info = record info { dirty = true }
 changed_info false info = info
 
-pub change-changed : (parts : Parts) (page : ℕ) (changed : Bool) → page < length parts.pages.infos → InfoChange parts.pages (with_change parts page changed).pages page (changed_info changed (info_at parts.pages page))
+pub change-changed : (parts : Parts) (page : ℕ) (changed : Bool) → page < length parts.pages.infos
+    → InfoChange parts.pages (with_change parts page changed).pages page (changed_info changed (info_at parts.pages page))
 unfolding with_dirty
 change-changed parts page true below = change-with_info parts.pages page (record (info_at parts.pages page) { dirty = true }) below
 change-changed parts page false below = record { size = refl; here = refl; others = λ i other. refl }
@@ -109,7 +110,8 @@ maps-changed parts page false = refl
 abbrev pub shown_info : Bool → PageInfo → PageInfo
 shown_info writes info = record info { writers = info.writers + one_if writes }
 
-pub change-mapped : (parts : Parts) (page slot index : ℕ) (writes : Bool) → page < length parts.pages.infos → InfoChange parts.pages (mapped parts page slot index writes).pages page (shown_info writes (info_at parts.pages page))
+pub change-mapped : (parts : Parts) (page slot index : ℕ) (writes : Bool) → page < length parts.pages.infos
+    → InfoChange parts.pages (mapped parts page slot index writes).pages page (shown_info writes (info_at parts.pages page))
 unfolding mapped with_writers
 change-mapped parts page slot index writes below = change-with_info parts.pages page (shown_info writes (info_at parts.pages page)) below
 
@@ -117,7 +119,8 @@ pub only-mapped : (parts : Parts) (page slot index : ℕ) (writes : Bool) → On
 unfolding mapped with_writers with_info
 only-mapped parts page slot index writes = record { free = refl; cache = refl; faults = refl }
 
-pub maps-mapped : (parts : Parts) (page slot index : ℕ) (writes : Bool) → (mapped parts page slot index writes).maps ≡ with_entry parts.maps slot index (Some (record { page = page; writable = writes }))
+pub maps-mapped : (parts : Parts) (page slot index : ℕ) (writes : Bool)
+    → (mapped parts page slot index writes).maps ≡ with_entry parts.maps slot index (Some (record { page = page; writable = writes }))
 unfolding mapped
 maps-mapped parts page slot index writes = refl
 
@@ -125,7 +128,8 @@ maps-mapped parts page slot index writes = refl
 abbrev pub pinned_info : (pins : Bool) → PageInfo → PageInfo
 pinned_info pins info = record info { pins = pins_after pins info.pins }
 
-pub change-pinned : (parts : Parts) (page slot index : ℕ) (pins : Bool) → page < length parts.pages.infos → InfoChange parts.pages (pinned parts page slot index pins).pages page (pinned_info pins (info_at parts.pages page))
+pub change-pinned : (parts : Parts) (page slot index : ℕ) (pins : Bool) → page < length parts.pages.infos
+    → InfoChange parts.pages (pinned parts page slot index pins).pages page (pinned_info pins (info_at parts.pages page))
 unfolding pinned with_pins
 change-pinned parts page slot index pins below = change-with_info parts.pages page (pinned_info pins (info_at parts.pages page)) below
 

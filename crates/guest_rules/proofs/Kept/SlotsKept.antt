@@ -9,17 +9,17 @@ use Rattle.cmm_flat.specs.declared.mapping.Place.{Place}
 use Rattle.cmm_flat.specs.declared.mapping.Mapping.{Mapping}
 use Rattle.cmm_flat.specs.declared.mapping.Shown.TheVariants.{OfFile as FlatFile}
 use Rattle.cmm_flat.specs.Mapping.{with_pin}
-use Rattle.cmm_flat.specs.PlaceLaws.{places_total}
+use Rattle.cmm_flat.specs.Laws.PlaceLaws.{places_total}
 use Rattle.cmm_flat.specs.State.{FlatState, mapping_at, place_of}
 use Rattle.cmm_flat.specs.Flat.{none_pinned, with_mapping as flat_with_mapping}
-use Rattle.cmm_flat.specs.StepLaws.{mapping_at-with_mapping, mapping_at-with_mapping_other}
+use Rattle.cmm_flat.specs.Laws.StepLaws.{mapping_at-with_mapping, mapping_at-with_mapping_other}
 use Rattle.guest_maps.specs.declared.slot.Slot.{Slot}
 use Rattle.guest_maps.specs.declared.slot.Shown.{Shown}
 use Rattle.guest_maps.specs.declared.slot.Shown.TheVariants.{File as OfFile}
-use Rattle.guest_maps.specs.MapsView.{MapsView, IsPlace, slot_at, find_slot, free_slot, live_slots, is_mapping, has_page, place_at, pinned_at, new_mapping, with_mapping}
+use Rattle.guest_maps.specs.MapsView.{MapsView, IsPlace, slot_at, find_slot, free_slot, live_slots, is_mapping, slot_has_page, place_at, pinned_at, new_mapping, with_slot_mapped}
 use Rattle.guest_maps.specs.FirstPlace.{position_only}
-use Rattle.guest_maps.specs.SlotLaws.{own_mapping}
-use Rattle.guest_maps.specs.MapsLaws.{IsPlace-from, free_slot-is, find_slot-is, find_slot-none, length-with_mapping, entries-with_mapping, pinned-with_mapping, pages-with_mapping, slot_at-with_mapping_same, slot_at-with_mapping_other, find_slot-with_mapping_other, live_slots-with_mapping}
+use Rattle.guest_maps.specs.Laws.SlotLaws.{own_mapping}
+use Rattle.guest_maps.specs.Laws.MapsLaws.{IsPlace-from, free_slot-is, find_slot-is, find_slot-none, length-with_mapping, entries-with_mapping, pinned-with_mapping, pages-with_mapping, slot_at-with_mapping_same, slot_at-with_mapping_other, find_slot-with_mapping_other, live_slots-with_mapping}
 use Rattle.guest_rules.specs.declared.parts.Parts.{Parts}
 use Rattle.guest_rules.specs.Fit.{SlotsFit, pins_of, flat_shown, flat_slot, flat_mapping, flat_found}
 use Rattle.guest_rules.proofs.Cases.MapsFound.{found_slot}
@@ -37,18 +37,20 @@ slot-below maps slot mapping at = elim (cases_lt slot (length maps.slots)) [
 ]
 
 -- the same mapping in a slot, with the same pages pinned, is the same for the flat machine
-flat_mapping-same : (old new : MapsView) (slot : ℕ) → slot_at new slot ≡ slot_at old slot → ((index : ℕ) → has_page (slot_at old slot) index ≡ true → pinned_at new slot index ≡ pinned_at old slot index)
+flat_mapping-same : (old new : MapsView) (slot : ℕ) → slot_at new slot ≡ slot_at old slot
+    → ((index : ℕ) → slot_has_page (slot_at old slot) index ≡ true → pinned_at new slot index ≡ pinned_at old slot index)
     → flat_mapping new slot (slot_at new slot) ≡ flat_mapping old slot (slot_at old slot)
 flat_mapping-same old new slot same pins = ap (flat_mapping new slot) same ∙ of (slot_at old slot) pins
   where
-    of : (o : Option Slot) → ((index : ℕ) → has_page o index ≡ true → pinned_at new slot index ≡ pinned_at old slot index) → flat_mapping new slot o ≡ flat_mapping old slot o
+    of : (o : Option Slot) → ((index : ℕ) → slot_has_page o index ≡ true → pinned_at new slot index ≡ pinned_at old slot index) → flat_mapping new slot o ≡ flat_mapping old slot o
     of None each = refl
     of (Some mapping) each =
         ap (λ q. let out : Option Mapping = Some (record { shown = flat_shown mapping.shown mapping.count; pins = q }) in out)
         (pins_of-same old new slot mapping.count (λ index below. each index (is_below index mapping.count below)))
 
 -- the slots are the same, and so are what is pinned, the files and the flat mappings
-pub SlotsFit-kept : (state later : FlatState) (old new : Parts) → SlotsFit state old → later.mappings ≡ state.mappings → new.maps.slots ≡ old.maps.slots → length new.maps.entries ≡ length old.maps.entries
+pub SlotsFit-kept : (state later : FlatState) (old new : Parts) → SlotsFit state old → later.mappings ≡ state.mappings → new.maps.slots ≡ old.maps.slots
+    → length new.maps.entries ≡ length old.maps.entries
     → new.maps.pinned ≡ old.maps.pinned → new.maps.pages ≡ old.maps.pages → length new.pages.infos ≡ length old.pages.infos → new.cache.files ≡ old.cache.files → SlotsFit later new
 SlotsFit-kept state later old new f mappings slots entries pinned pages infos files = record {
   slots = rw slots f.slots;
@@ -61,7 +63,7 @@ SlotsFit-kept state later old new f mappings slots entries pinned pages infos fi
   counted = ap (λ m. finite.len m) mappings ∙ f.counted ∙ ap (λ xs. of_live xs) (sym slots);
   shown = λ slot mapping e. let k = f.shown slot mapping (rw slots at e) in (k.0, rw files k.1);
   placed = λ slot index below e.
-      ap (λ xs. has_page (slice_index_or xs slot None) index) slots ∙ f.placed slot index below (ap (λ xs. slice_index_or xs (place_at slot index) false) (sym pinned) ∙ e);
+      ap (λ xs. slot_has_page (slice_index_or xs slot None) index) slots ∙ f.placed slot index below (ap (λ xs. slice_index_or xs (place_at slot index) false) (sym pinned) ∙ e);
 }
   where
     of_live : List (Option Slot) → ℕ
@@ -69,7 +71,8 @@ SlotsFit-kept state later old new f mappings slots entries pinned pages infos fi
 
     with_found : (process number : ℕ) (o : Option ℕ) → flat_found new.maps o ≡ flat_found old.maps o
     with_found process number None = refl
-    with_found process number (Some slot) = flat_mapping-same old.maps new.maps slot (ap (λ xs. slice_index_or xs slot None) slots) (λ index below. ap (λ xs. slice_index_or xs (place_at slot index) false) pinned)
+    with_found process number (Some slot) = flat_mapping-same old.maps new.maps slot (ap (λ xs. slice_index_or xs slot None) slots)
+        (λ index below. ap (λ xs. slice_index_or xs (place_at slot index) false) pinned)
 
     found : (process number : ℕ) → flat_found new.maps (find_slot new.maps process number) ≡ flat_found old.maps (find_slot old.maps process number)
     found process number = ap (λ xs. flat_found new.maps (position (is_mapping process number) xs)) slots ∙ with_found process number (find_slot old.maps process number)
@@ -86,7 +89,8 @@ abbrev new_file : (file first : ℕ) → Bool → ℕ → Mapping
 new_file file first writable count = record { shown = FlatFile file first writable; pins = none_pinned count }
 
 pub SlotsFit-mapped : (state : FlatState) (old new : Parts) (slot process number file first count : ℕ) (writable : Bool) → SlotsFit state old → NewMapping old slot process number file first count
-    → new ≡ record old { maps = with_mapping old.maps slot process number (OfFile file first writable) count } → SlotsFit (flat_with_mapping state process number (new_file file first writable count)) new
+    → new ≡ record old { maps = with_slot_mapped old.maps slot process number (OfFile file first writable) count }
+    → SlotsFit (flat_with_mapping state process number (new_file file first writable count)) new
 SlotsFit-mapped state old new slot process number file first count writable f k is = rw is (record {
   slots = length-with_mapping old.maps slot process number shown count ∙ f.slots;
   entries = ap length (entries-with_mapping old.maps slot process number shown count) ∙ f.entries;
@@ -126,7 +130,7 @@ SlotsFit-mapped state old new slot process number file first count writable f k 
   ];
   placed = λ s index lt e.
       let was = f.placed s index lt (sym (pinned_same s index) ∙ e) in
-      ap (λ (o : Option Slot). has_page o index) (there s (unpinned s index was)) ∙ was;
+      ap (λ (o : Option Slot). slot_has_page o index) (there s (unpinned s index was)) ∙ was;
 })
   where
     shown : Shown
@@ -136,7 +140,7 @@ SlotsFit-mapped state old new slot process number file first count writable f k 
     one = new_mapping process number shown count
 
     now : MapsView
-    now = with_mapping old.maps slot process number shown count
+    now = with_slot_mapped old.maps slot process number shown count
 
     below : slot < length old.maps.slots
     below = (free_slot-is old.maps slot k.free).0
@@ -152,7 +156,7 @@ SlotsFit-mapped state old new slot process number file first count writable f k 
 
     -- a free slot has no place
     unpinned : (s index : ℕ) → IsPlace old.maps s index → s ≢ slot
-    unpinned s index is z = let bad : false ≡ true = ap (λ (o : Option Slot). has_page o index) (sym free) ∙ ap (λ q. has_page (slot_at old.maps q) index) (sym z) ∙ is in cc
+    unpinned s index is z = let bad : false ≡ true = ap (λ (o : Option Slot). slot_has_page o index) (sym free) ∙ ap (λ q. slot_has_page (slot_at old.maps q) index) (sym z) ∙ is in cc
 
     new_pins : List Bool → Option Mapping
     new_pins pins = Some (record { shown = FlatFile file first writable; pins = pins })
@@ -206,16 +210,18 @@ SlotsFit-mapped state old new slot process number file first count writable f k 
     len_more : finite.len (flat_with_mapping state process number (new_file file first writable count)).mappings ≡ finite.len state.mappings + 1
     len_more =
         let new : mapping_at state process number ≡ None = f.flat process number ∙ ap (flat_found old.maps) k.none in
-        finite.len-insert places_total state.mappings (place_of process number) (new_file file first writable count) ∙ ap (λ (o : Option Mapping). cond (is_some o) (finite.len state.mappings) (finite.len state.mappings + 1)) new
+        finite.len-insert places_total state.mappings (place_of process number) (new_file file first writable count)
+        ∙ ap (λ (o : Option Mapping). cond (is_some o) (finite.len state.mappings) (finite.len state.mappings + 1)) new
 
 -- what the flat machine has of a mapping whose page is pinned, or unpinned
 abbrev pub pinned_state : FlatState → (process number : ℕ) → MapsView → ℕ → Slot → (index : ℕ) → Bool → FlatState
 pinned_state state process number maps slot mapping index pins = flat_with_mapping state process number (with_pin (flat_slot maps slot mapping) index pins)
 
-has_below : (maps : MapsView) (slot : ℕ) (mapping : Slot) (index : ℕ) → slot_at maps slot ≡ Some mapping → has_page (slot_at maps slot) index ≡ true → index < mapping.count
-has_below maps slot mapping index at has = ltb-true index mapping.count (ap (λ o. has_page o index) (sym at) ∙ has)
+has_below : (maps : MapsView) (slot : ℕ) (mapping : Slot) (index : ℕ) → slot_at maps slot ≡ Some mapping → slot_has_page (slot_at maps slot) index ≡ true → index < mapping.count
+has_below maps slot mapping index at has = ltb-true index mapping.count (ap (λ o. slot_has_page o index) (sym at) ∙ has)
 
-pub SlotsFit-pinned : (state : FlatState) (old new : Parts) (process number slot index : ℕ) (pins : Bool) → SlotsFit state old → (k : PinPlace old.maps process number slot index pins) → PinChange old.maps new.maps slot index pins
+pub SlotsFit-pinned : (state : FlatState) (old new : Parts) (process number slot index : ℕ) (pins : Bool) → SlotsFit state old → (k : PinPlace old.maps process number slot index pins)
+    → PinChange old.maps new.maps slot index pins
     → length new.pages.infos ≡ length old.pages.infos → new.cache.files ≡ old.cache.files → SlotsFit (pinned_state state process number old.maps slot k.mapping index pins) new
 SlotsFit-pinned state old new process number slot index pins f k change infos files = record {
   slots = rw slots f.slots;
@@ -283,10 +289,11 @@ SlotsFit-pinned state old new process number slot index pins f k change infos fi
         of None e = refl
         of (Some s) e =
             let its = found_slot old.maps p n s e in
-            flat_mapping-same old.maps new.maps s (same s) (λ i has. change.others s i (omega (arith, (f.shown s its.mapping its.at).0, has_below old.maps s its.mapping i its.at has)) (λ z y. apart s e z))
+            flat_mapping-same old.maps new.maps s (same s) (λ i has. change.others s i (omega (arith, (f.shown s its.mapping its.at).0, has_below old.maps s its.mapping i its.at has))
+            (λ z y. apart s e z))
 
     placed : (s i : ℕ) → i < MAX_MAPPING_PAGES → pinned_at new.maps s i ≡ true → IsPlace new.maps s i
-    placed s i lt e = ap (λ o. has_page o i) (same s) ∙ (elim (cases_eq s slot) [
+    placed s i lt e = ap (λ o. slot_has_page o i) (same s) ∙ (elim (cases_eq s slot) [
       | inl z ↦ elim (cases_eq i index) [
         | inl y ↦ rw (z, y) (IsPlace-from old.maps slot index k.mapping k.at k.below)
         | inr n ↦ f.placed s i lt (sym (change.others s i lt (λ q r. n r)) ∙ e)

@@ -7,8 +7,8 @@ use Rattle.cmm_types.specs.declared.page.Tag.{Tag}
 use Rattle.cmm_types.specs.declared.page.Tag.TheVariants.{File, Anon}
 use Rattle.guest_pages.specs.declared.info.PageInfo.{PageInfo}
 use Rattle.guest_pages.specs.PagesView.{info_at, with_info, with_uptodate, with_owner, popped}
-use Rattle.guest_pages.specs.PagesLaws.{info_at-with_info_same, length-with_info}
-use Rattle.guest_cache.specs.CacheView.{CacheView, place_of, page_of, without_page}
+use Rattle.guest_pages.specs.Laws.PagesLaws.{info_at-with_info_same, length-with_info}
+use Rattle.guest_cache.specs.CacheView.{CacheView, index_place, page_of, without_page}
 use Rattle.guest_rules.specs.declared.parts.Parts.{Parts}
 use Rattle.guest_rules.specs.Rows.{filled, freed, handled, without_tag}
 use Rattle.guest_rules.specs.Turns.{begun}
@@ -34,8 +34,8 @@ get_or-set_none xs i = elim (cases_lt i (length xs)) [
 -- a tag that was taken out of the index has no page
 pub page_of-without_page : (cache : CacheView) (tag : Tag) → page_of (without_page cache tag) tag ≡ None
 unfolding without_page
-page_of-without_page cache (File file index) = get_or-set_none cache.index (place_of cache (File file index))
-page_of-without_page cache (Anon slot index) = get_or-set_none cache.index (place_of cache (Anon slot index))
+page_of-without_page cache (File file index) = get_or-set_none cache.index (index_place cache (File file index))
+page_of-without_page cache (Anon slot index) = get_or-set_none cache.index (index_place cache (Anon slot index))
 
 -- the tag of a page that was discarded has no page any more
 pub page_of-handled : (parts : Parts) (page : ℕ) (tag : Tag) → (info_at parts.pages page).tag ≡ Some tag → page_of (handled parts page).cache tag ≡ None
@@ -45,4 +45,5 @@ page_of-handled parts page tag tagged = ap (λ q. page_of (without_tag parts.cac
 -- the tag of a page that is to be filled
 pub tag-begun : (parts : Parts) (page : ℕ) (tag : Tag) (cpu : ℕ) → page < length parts.pages.infos → (info_at (begun parts page tag cpu).pages page).tag ≡ Some tag
 unfolding begun popped
-tag-begun parts page tag cpu below = ap (λ q. q.tag) (info_at-with_info_same parts.pages page (record { tag = Some tag; uptodate = false; dirty = false; owner = Some cpu; pins = 0; writers = 0 }) below)
+tag-begun parts page tag cpu below = ap (λ q. q.tag) (info_at-with_info_same parts.pages page
+    (record { tag = Some tag; uptodate = false; dirty = false; owner = Some cpu; pins = 0; writers = 0 }) below)

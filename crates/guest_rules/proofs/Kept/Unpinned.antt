@@ -28,7 +28,8 @@ use Rattle.guest_rules.proofs.Cases.WantedTags.{tag_in-Some}
 use Rattle.guest_rules.proofs.Cases.Placed.{pin-place}
 
 -- what is pinned is up to date
-pub stale-unpinned : (parts : Parts) (page : ℕ) (tag : Tag) → PinsFit parts → PagesFit parts → (info_at parts.pages page).tag ≡ Some tag → (info_at parts.pages page).uptodate ≡ false → (info_at parts.pages page).pins ≡ 0
+pub stale-unpinned : (parts : Parts) (page : ℕ) (tag : Tag) → PinsFit parts → PagesFit parts → (info_at parts.pages page).tag ≡ Some tag → (info_at parts.pages page).uptodate ≡ false
+    → (info_at parts.pages page).pins ≡ 0
 stale-unpinned parts page tag f pages tagged stale =
     f.counted page tag tagged
     ∙ pins_within-none parts.maps tag (length parts.maps.slots) MAX_MAPPING_PAGES
@@ -55,7 +56,8 @@ hint-pinned info tag tagged pinned =
     of false b c = refl
 
 -- and so it is never lost
-pub lost-unpinned : (state : FlatState) (g : GuestState) (v : StorageView) (d : DiskView) (page : ℕ) (tag : Tag) (found : PageValue) → FitAt state g v d → page < length g.parts.pages.infos → (info_at g.parts.pages page).tag ≡ Some tag
+pub lost-unpinned : (state : FlatState) (g : GuestState) (v : StorageView) (d : DiskView) (page : ℕ) (tag : Tag) (found : PageValue) → FitAt state g v d → page < length g.parts.pages.infos
+    → (info_at g.parts.pages page).tag ≡ Some tag
     → MayBecome (v.values page) found → is_lost found.contents ≡ true → (info_at g.parts.pages page).pins ≡ 0
 lost-unpinned state g v d page tag found f within tagged may lost = elim (cases_eq (info_at g.parts.pages page).pins 0) [
   | inl z ↦ z
@@ -67,7 +69,8 @@ lost-unpinned state g v d page tag found f within tagged may lost = elim (cases_
 ]
 
 -- a command whose tag is on no page needs one
-pub begun-needs : (state : FlatState) (g : GuestState) (v : StorageView) (d : DiskView) (cpu : ℕ) (op : Op) (tag : Tag) → FitAt state g v d → Starts g cpu op → Wants g cpu op tag → page_of g.parts.cache tag ≡ None → NeedsPage op
+pub begun-needs : (state : FlatState) (g : GuestState) (v : StorageView) (d : DiskView) (cpu : ℕ) (op : Op) (tag : Tag) → FitAt state g v d → Starts g cpu op → Wants g cpu op tag
+    → page_of g.parts.cache tag ≡ None → NeedsPage op
 begun-needs state g v d cpu (Read file off len) tag f starts wants none = tt
 begun-needs state g v d cpu (Write file off bytes) tag f starts wants none = tt
 begun-needs state g v d cpu (Load number off len) tag f starts wants none = tt

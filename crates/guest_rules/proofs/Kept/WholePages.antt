@@ -5,12 +5,12 @@ use Rattle.std.proofs.lemmas.Grind.{common_steps}
 use Rattle.cmm_types.specs.declared.page.TheConstants.{PAGE}
 use Rattle.cmm_types.specs.declared.page.Tag.{Tag}
 use Rattle.cmm_types.specs.declared.page.Tag.TheVariants.{File}
-use Rattle.cmm_flat.specs.Bytes.{bytes_at}
-use Rattle.cmm_flat.specs.RangeLaws.{bytes_at-with_bytes}
+use Rattle.cmm_types.specs.Bytes.{bytes_at, with_bytes}
+use Rattle.cmm_flat.specs.Laws.RangeLaws.{bytes_at-with_bytes}
 use Rattle.cmm_flat.specs.State.{FlatState, file_at}
 use Rattle.cmm_io.specs.DiskView.{DiskView}
 use Rattle.essa_state.specs.PageValue.{PageValue, Bytes, MayBecome, is_lost}
-use Rattle.cmm_storage.specs.StorageView.{StorageView, write_at}
+use Rattle.cmm_storage.specs.StorageView.{StorageView}
 use Rattle.guest_pages.specs.PagesView.{info_at}
 use Rattle.guest_rules.specs.GuestState.{GuestState}
 use Rattle.guest_rules.specs.Turns.{file_pages}
@@ -43,8 +43,9 @@ whole_page state g v d page file index bytes f tagged fresh are =
 fits_in : (all bytes : List ℕ) (off : ℕ) → length all ≡ PAGE → off + length bytes ≤ PAGE → off + length bytes ≤ length all
 fits_in all bytes off whole within = omega (arith, whole, within)
 
-pub written_there : (state : FlatState) (g : GuestState) (v : StorageView) (d : DiskView) (page off : ℕ) (tag : Tag) (found : PageValue) (all bytes : List ℕ) → FitAt state g v d → ShowsPage g tag page → IsWanted g.parts tag
-    → MayBecome (v.values page) found → found.contents ≡ Bytes all → off + length bytes ≤ PAGE → bytes_at (write_at all off bytes) off (length bytes) ≡ bytes
+pub written_there : (state : FlatState) (g : GuestState) (v : StorageView) (d : DiskView) (page off : ℕ) (tag : Tag) (found : PageValue) (all bytes : List ℕ) → FitAt state g v d
+    → ShowsPage g tag page → IsWanted g.parts tag
+    → MayBecome (v.values page) found → found.contents ≡ Bytes all → off + length bytes ≤ PAGE → bytes_at (with_bytes all off bytes) off (length bytes) ≡ bytes
 written_there state g v d page off tag found all bytes f shows wanted may are within =
     let same : found ≡ v.values page = may_used (v.values page) found (can_be_shown state g v d page tag f shows).usage may (ap is_lost are) in
     let (file, index, is) = wanted.of_file in

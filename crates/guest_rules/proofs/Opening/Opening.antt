@@ -13,21 +13,21 @@ use Rattle.cmm_types.specs.InRange.{GuestInRange}
 use Rattle.cmm_io.specs.DiskOf.{disk_of}
 use Rattle.cmm_io.specs.DiskView.{DiskView, AreBlocks}
 use Rattle.cmm_io.proofs.DiskBlocks.{whole_disk, length-disk_of}
-use Rattle.cmm_flat.specs.Bytes.{bytes_at}
+use Rattle.cmm_types.specs.Bytes.{bytes_at}
 use Rattle.cmm_flat.specs.State.{FlatState, opening, file_at}
 use Rattle.cmm_flat.specs.Legal.{Progress, at_start as at_first}
-use Rattle.essa_state.specs.PageValue.{PageValue}
+use Rattle.essa_state.specs.PageValue.{PageValue, opening_value}
 use Rattle.cmm_storage.specs.StorageView.{StorageView}
 use Rattle.guest_pages.specs.declared.info.PageInfo.{PageInfo}
 use Rattle.guest_pages.specs.PagesView.{free_info, AreDistinct}
 use Rattle.guest_cache.specs.CacheView.{IsTag}
-use Rattle.guest_cache.specs.CacheLaws.{IsCache-opening, page_of-opening}
+use Rattle.guest_cache.specs.Laws.CacheLaws.{IsCache-opening, page_of-opening}
 use Rattle.guest_rules.specs.declared.parts.Parts.{Parts}
 use Rattle.guest_rules.specs.declared.processor.Phase.TheVariants.{Start, Fill, Sync as AtSync, SyncWrite}
 use Rattle.guest_rules.specs.declared.processor.Processor.{Processor}
-use Rattle.guest_rules.specs.GuestState.{at_start, processor_at, opening_guest}
+use Rattle.guest_rules.specs.GuestState.{first_processor, processor_at, opening_guest}
 use Rattle.guest_rules.specs.Built.{GuestIsBuilt}
-use Rattle.guest_rules.specs.Fresh.{AreFresh, fresh_value}
+use Rattle.guest_rules.specs.Fresh.{AreFresh}
 use Rattle.guest_rules.specs.Fit.{PagesFit, LocksFit, FlatFit, JournalFit, FaultsFit, Fit, backing, current_at, one_if_lost}
 use Rattle.guest_rules.proofs.Kept.Faults.{sum_below-le}
 use Rattle.guest_rules.proofs.Kept.PageFits.{EachPageFits, PageFits-free, HintsFit-from, ContentsFit-from}
@@ -64,8 +64,8 @@ PagesFit-opening plan = record {
   found = λ page tag is some. let bad : None ≡ Some page = sym (page_of-opening (planned_pages plan.files) plan.swap MAX_MAPPING_SLOTS tag is) ∙ some in absurd cc;
 }
 
-processor-opening : (plan : GuestPlan) (cpu : ℕ) → processor_at (opening_guest plan) cpu ≡ at_start
-processor-opening plan cpu = all-same plan.cpus at_start cpu
+processor-opening : (plan : GuestPlan) (cpu : ℕ) → processor_at (opening_guest plan) cpu ≡ first_processor
+processor-opening plan cpu = all-same plan.cpus first_processor cpu
 
 LocksFit-opening : (plan : GuestPlan) → LocksFit (opening_guest plan)
 LocksFit-opening plan = record {
@@ -77,9 +77,9 @@ LocksFit-opening plan = record {
   stale = λ page tag some none. let bad : None ≡ Some tag = ap (λ (i : PageInfo). i.tag) (sym (info-opening plan.pages page)) ∙ some in absurd cc;
 }
 
-no_place : (cpus : List CpuPlan) → sum_by (λ processor. processor.place) (map (λ cpu. at_start) cpus) ≡ 0
+no_place : (cpus : List CpuPlan) → sum_by (λ processor. processor.place) (map (λ cpu. first_processor) cpus) ≡ 0
 no_place [] = refl
-no_place (cpu ∷ cpus) = sum_by-cons (λ (processor : Processor). processor.place) at_start (map (λ c. at_start) cpus) ∙ (omega (arith, no_place cpus))
+no_place (cpu ∷ cpus) = sum_by-cons (λ (processor : Processor). processor.place) first_processor (map (λ c. first_processor) cpus) ∙ (omega (arith, no_place cpus))
 
 JournalFit-opening : (plan : GuestPlan) → JournalFit (opening_guest plan)
 JournalFit-opening plan = record {
@@ -92,9 +92,10 @@ JournalFit-opening plan = record {
     place : (cpu : ℕ) → (processor_at (opening_guest plan) cpu).place ≡ 0
     place cpu = ap (λ (p : Processor). p.place) (processor-opening plan cpu)
 
-FaultsFit-opening : (plan : GuestPlan) (v : StorageView) → ((page : ℕ) → page < v.pages → v.values page ≡ fresh_value) → FaultsFit (opening_guest plan).parts v
+FaultsFit-opening : (plan : GuestPlan) (v : StorageView) → ((page : ℕ) → page < v.pages → v.values page ≡ opening_value) → FaultsFit (opening_guest plan).parts v
 FaultsFit-opening plan v fresh =
-    let sums = sum_below-le (λ page. one_if_lost (v.values page)) (λ page. 0) (λ page. (v.values page).count) (λ page. 0) v.pages (λ page below. subst (λ x. one_if_lost x + 0 ≤ x.count + 0) (sym (fresh page below)) (omega arith)) in
+    let sums = sum_below-le (λ page. one_if_lost (v.values page)) (λ page. 0) (λ page. (v.values page).count) (λ page. 0) v.pages
+    (λ page below. subst (λ x. one_if_lost x + 0 ≤ x.count + 0) (sym (fresh page below)) (omega arith)) in
     omega (arith, sums)
 
 pub Fit-opening : (plan : GuestPlan) (v : StorageView) (d : DiskView) → GuestInRange plan → GuestIsBuilt plan → AreFresh plan v d → Fit (opening_guest plan) v d
@@ -104,7 +105,7 @@ Fit-opening plan v d range built fresh = record {
     built = built;
     infos = length-replicate plan.pages free_info;
     pages = fresh.pages;
-    processors = length-map plan.cpus (λ cpu. at_start);
+    processors = length-map plan.cpus (λ cpu. first_processor);
     files = refl;
     swap = length-replicate plan.swap None;
     slots = refl;

@@ -11,7 +11,7 @@ use Rattle.cmm_types.specs.declared.page.TheConstants.{PAGE}
 use Rattle.cmm_types.specs.declared.plan.FilePlan.{FilePlan}
 use Rattle.cmm_types.specs.InRange.{FileInRange}
 use Rattle.cmm_io.specs.DiskOf.{page_at, file_bytes, file_blocks, disk_of}
-use Rattle.cmm_flat.specs.Bytes.{zeros, bytes_at}
+use Rattle.cmm_types.specs.Bytes.{zeros, bytes_at}
 use Rattle.cmm_flat.specs.State.{opening_file, file_at}
 use Rattle.guest_cache.specs.CacheView.{pages_before}
 
@@ -45,7 +45,14 @@ disk-block files swap file index there below =
     let its = get_or files file no_file in
     let within : index < length (file_blocks its) = rw (length-file_blocks its) below in
     let inside : pages_before (planned_pages files) file + index < length (flat_map file_blocks files) =
-    omega (arith, sym (blocks-before files file), length-flat_map file_blocks (take file files), sum_by_more_le (λ f. length (file_blocks f)) files file no_file there, length-flat_map file_blocks files, within) in
+    omega (
+      arith,
+      sym (blocks-before files file),
+      length-flat_map file_blocks (take file files),
+      sum_by_more_le (λ f. length (file_blocks f)) files file no_file there,
+      length-flat_map file_blocks files,
+      within,
+    ) in
     get_or_append_left (flat_map file_blocks files) (replicate swap _) [] (pages_before (planned_pages files) file + index) inside
     ∙ ap (λ n. get_or (flat_map file_blocks files) (n + index) []) (sym (blocks-before files file))
     ∙ get_or-flat_map file_blocks files file index no_file [] there within

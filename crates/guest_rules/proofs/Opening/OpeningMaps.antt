@@ -14,7 +14,7 @@ use Rattle.guest_pages.specs.PagesView.{free_info, info_at, opening_pages}
 use Rattle.guest_maps.specs.declared.slot.Pte.{Pte}
 use Rattle.guest_maps.specs.declared.slot.Slot.{Slot}
 use Rattle.guest_maps.specs.MapsView.{slot_at, entry_at, pinned_at, opening_maps}
-use Rattle.guest_maps.specs.MapsLaws.{slot_at-opening, find_slot-opening, live_slots-opening, entry_at-opening, pinned_at-opening, writers_showing-opening}
+use Rattle.guest_maps.specs.Laws.MapsLaws.{slot_at-opening, find_slot-opening, live_slots-opening, entry_at-opening, pinned_at-opening, writers_showing-opening}
 use Rattle.guest_rules.specs.GuestState.{opening_guest}
 use Rattle.guest_rules.specs.Fit.{SlotsFit, EntriesFit, flat_found}
 use Rattle.guest_rules.proofs.Kept.PinsKept.{PinsStand}

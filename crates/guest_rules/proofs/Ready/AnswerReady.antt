@@ -10,20 +10,16 @@ use Rattle.guest_rules.specs.declared.processor.Phase.TheVariants.{Fill}
 use Rattle.guest_rules.specs.GuestState.{GuestState, processor_at}
 use Rattle.guest_rules.specs.Fit.{FitAt, IsWriting}
 use Rattle.guest_rules.specs.Answers.{HasBeenFilled, IsToBeFilled, IsToBeWritten}
-use Rattle.guest_rules.proofs.Cases.TurnCases.{ShowsPage, HasPage}
+use Rattle.guest_rules.proofs.Cases.TurnCases.{ShowsPage}
 use Rattle.guest_rules.proofs.Kept.Unshown.{stale-unshown}
 use Rattle.guest_rules.proofs.Kept.Unpinned.{stale-unpinned}
-use Rattle.guest_rules.proofs.Ready.Ready.{has_shows, can_be_shown, can_be_filled, can_be_written}
+use Rattle.guest_rules.proofs.Ready.Ready.{can_be_shown, can_be_filled, can_be_written}
 
 -- a page with a tag that is up to date
 pub shown-ready : (state : FlatState) (g : GuestState) (v : StorageView) (d : DiskView) (page : ℕ) (tag : Tag) → FitAt state g v d → ShowsPage g tag page → HasBeenFilled g.parts page v
 shown-ready state g v d page tag f shows =
     let can = can_be_shown state g v d page tag f shows in
     record { has = record { below = shows.below; tag = tag; tagged = shows.tagged }; tells = can.tells; used = can.usage; filled = can.filled }
-
--- or that isn't locked
-pub unlocked-ready : (state : FlatState) (g : GuestState) (v : StorageView) (d : DiskView) (page : ℕ) (tag : Tag) → FitAt state g v d → HasPage g tag page → HasBeenFilled g.parts page v
-unlocked-ready state g v d page tag f has = shown-ready state g v d page tag f (has_shows state g v d page tag f has)
 
 -- a page that a processor fills
 pub fill-ready : (state : FlatState) (g : GuestState) (v : StorageView) (d : DiskView) (cpu page : ℕ) → FitAt state g v d → (processor_at g cpu).phase ≡ Fill page → IsToBeFilled g.parts page v d

@@ -10,13 +10,14 @@ use Rattle.essa_state.specs.PageValue.{PageValue, MayBecome, is_lost}
 use Rattle.cmm_storage.specs.StorageView.{StorageView}
 use Rattle.guest_pages.specs.declared.info.PageInfo.{PageInfo}
 use Rattle.guest_pages.specs.PagesView.{info_at, with_info, with_dirty, with_uptodate, with_owner, with_pins, with_writers}
-use Rattle.guest_pages.specs.PagesLaws.{info_at-with_info_same, length-with_info}
+use Rattle.guest_pages.specs.Laws.PagesLaws.{info_at-with_info_same, length-with_info}
 use Rattle.guest_cache.specs.CacheView.{IsTag, page_of, pages_before}
 use Rattle.guest_rules.specs.declared.parts.Parts.{Parts}
 use Rattle.guest_rules.specs.declared.processor.Phase.TheVariants.{Fill}
 use Rattle.guest_rules.specs.Hint.{hint}
 use Rattle.guest_rules.specs.GuestState.{GuestState, processor_at}
-use Rattle.guest_rules.specs.Rows.{mapped, pinned, pins_after, filled, one_if}
+use Rattle.guest_rules.specs.Rows.{mapped, pinned, pins_after, filled}
+use Rattle.guest_maps.specs.MapsView.{one_if}
 use Rattle.guest_rules.specs.Fit.{FitAt, IsWriting}
 use Rattle.guest_rules.proofs.Cases.TurnCases.{HasPage, ShowsPage}
 use Rattle.guest_rules.specs.Syncs.{unlocked, cleaned}
@@ -94,7 +95,8 @@ pub can_be_used : (state : FlatState) (g : GuestState) (v : StorageView) (d : Di
 can_be_used state g v d page tag f has = can_be_shown state g v d page tag f (has_shows state g v d page tag f has)
 
 -- a locked page is stable, so a page that the host discarded isn't locked
-pub lost_unlocked : (state : FlatState) (g : GuestState) (v : StorageView) (d : DiskView) (page : ℕ) (tag : Tag) (found : PageValue) → FitAt state g v d → ShowsPage g tag page → MayBecome (v.values page) found
+pub lost_unlocked : (state : FlatState) (g : GuestState) (v : StorageView) (d : DiskView) (page : ℕ) (tag : Tag) (found : PageValue) → FitAt state g v d → ShowsPage g tag page
+    → MayBecome (v.values page) found
     → is_lost found.contents ≡ true → HasPage g tag page
 lost_unlocked state g v d page tag found f shows may lost = record { below = shows.below; tagged = shows.tagged; unlocked = of (info_at g.parts.pages page).owner refl }
   where
@@ -107,7 +109,8 @@ lost_unlocked state g v d page tag found f shows may lost = record { below = sho
         let bad : true ≡ false = sym lost ∙ ap (λ q. is_lost q.contents) same ∙ stable_there (v.values page) usage (f.hints.values page below) in absurd cc
 
 -- a page that a processor writes back
-pub can_be_written : (state : FlatState) (g : GuestState) (v : StorageView) (d : DiskView) (cpu index page : ℕ) → FitAt state g v d → (k : IsWriting g cpu index page) → CanBeWritten g.parts page (File k.file index) v
+pub can_be_written : (state : FlatState) (g : GuestState) (v : StorageView) (d : DiskView) (cpu index page : ℕ) → FitAt state g v d → (k : IsWriting g cpu index page)
+    → CanBeWritten g.parts page (File k.file index) v
 can_be_written state g v d cpu index page f k =
     let below = below_view state g v d page f k.below in
     let tag : Tag = File k.file index in
@@ -137,5 +140,6 @@ can_be_filled state g v d cpu page f phase =
       value = f.hints.values page below;
       used = is_used_filled g.parts page k.tag k.below k.tagged;
       hinted = ap hint info
-          ∙ hint_clean (record (info_at g.parts.pages page) { uptodate = true; owner = None }) k.tag k.tagged refl (f.locks.stale_clean page k.stale) refl (stale-unpinned g.parts page k.tag f.pins f.pages k.tagged k.stale) (stale-unshown g.parts page f.entries k.stale);
+          ∙ hint_clean (record (info_at g.parts.pages page) { uptodate = true; owner = None }) k.tag k.tagged refl (f.locks.stale_clean page k.stale) refl
+          (stale-unpinned g.parts page k.tag f.pins f.pages k.tagged k.stale) (stale-unshown g.parts page f.entries k.stale);
     }

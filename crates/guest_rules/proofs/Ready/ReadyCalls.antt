@@ -18,12 +18,12 @@ use Rattle.cmm_flat.specs.Legal.{command_of, process_of, flat_of}
 use Rattle.cmm_storage.specs.StorageView.{StorageView}
 use Rattle.guest_pages.specs.PagesView.{info_at}
 use Rattle.guest_cache.specs.CacheView.{IsTag, page_of, backing_of}
-use Rattle.guest_cache.specs.CacheLaws.{backing_of-below}
+use Rattle.guest_cache.specs.Laws.CacheLaws.{backing_of-below}
 use Rattle.guest_maps.specs.declared.slot.Pte.{Pte}
 use Rattle.guest_maps.specs.MapsView.{IsPlace, free_slot, find_slot, entry_at, stores_to}
 use Rattle.guest_rules.specs.declared.processor.Phase.TheVariants.{Fill, SyncWrite}
 use Rattle.guest_rules.specs.declared.processor.Processor.{Processor}
-use Rattle.guest_rules.specs.GuestState.{GuestState, processor_at, at_start}
+use Rattle.guest_rules.specs.GuestState.{GuestState, processor_at, first_processor}
 use Rattle.guest_rules.specs.Rows.{backing_at}
 use Rattle.guest_rules.specs.Fit.{SizesFit, Fit, commands_of, all_commands, IsSyncing}
 use Rattle.guest_rules.proofs.Cases.TurnCases.{Has, Starts, HasItsTag, pin_op}
@@ -82,14 +82,11 @@ pub writing-stable : (g : GuestState) (v : StorageView) (d : DiskView) (cpu inde
 writing-stable g v d cpu index page f phase = (can_be_written (flat_of g.plan g.journal) g v d cpu index page f (f.locks.writing cpu index page phase)).usage
 
 -- the page of the entry that a load or store finds
-pub entry-usable : (g : GuestState) (v : StorageView) (d : DiskView) (cpu : ℕ) (op : Op) (writes : Bool) (slot off : ℕ) (pte : Pte) → Fit g v d → Reaches g cpu op writes slot off → entry_at g.parts.maps slot (off / PAGE) ≡ Some pte → CanBeUsed g v pte.page
+pub entry-usable : (g : GuestState) (v : StorageView) (d : DiskView) (cpu : ℕ) (op : Op) (writes : Bool) (slot off : ℕ) (pte : Pte) → Fit g v d → Reaches g cpu op writes slot off
+    → entry_at g.parts.maps slot (off / PAGE) ≡ Some pte → CanBeUsed g v pte.page
 entry-usable g v d cpu op writes slot off pte f k entry =
     let has = entry_page (flat_of g.plan g.journal) g v d cpu op writes slot off pte f k entry in
     tagged-usable g v d pte.page k.tag f has.tagged
-
--- the next free page
-pub free-below : (g : GuestState) (v : StorageView) (d : DiskView) (page : ℕ) → Fit g v d → Contains g.parts.pages.free page → page < length g.parts.pages.infos
-free-below g v d page f there = (f.pages.free page there).0
 
 -- ---- blocks
 
@@ -124,21 +121,20 @@ read-piece g v d cpu file off len f has = (command-in_range g.plan cpu (processo
 pub load-piece : (g : GuestState) (v : StorageView) (d : DiskView) (cpu number off len : ℕ) → Fit g v d → Has g cpu (Load number off len) → (number < MAX_MAPPING_NUMBERS) × IsPiece off len
 load-piece g v d cpu number off len f has = command-in_range g.plan cpu (processor_at g cpu).place (Load number off len) f.sizes.range has.command
 
-pub store-piece : (g : GuestState) (v : StorageView) (d : DiskView) (cpu number off : ℕ) (bytes : List ℕ) → Fit g v d → Has g cpu (Store number off bytes) → (number < MAX_MAPPING_NUMBERS) × IsPiece off (length bytes)
+pub store-piece : (g : GuestState) (v : StorageView) (d : DiskView) (cpu number off : ℕ) (bytes : List ℕ) → Fit g v d → Has g cpu (Store number off bytes)
+    → (number < MAX_MAPPING_NUMBERS) × IsPiece off (length bytes)
 store-piece g v d cpu number off bytes f has = command-in_range g.plan cpu (processor_at g cpu).place (Store number off bytes) f.sizes.range has.command
 
--- its page is one that a mapping may have
-pub piece-page : (off len : ℕ) → IsPiece off len → off / PAGE < MAX_MAPPING_PAGES
-piece-page off len piece = omega (arith, piece.start)
-
 -- a new mapping is of pages that a mapping may have
-pub map-pages : (g : GuestState) (v : StorageView) (d : DiskView) (cpu number file first count : ℕ) (writable : Bool) → Fit g v d → Has g cpu (MapFile number file first count writable) → (number < MAX_MAPPING_NUMBERS) × ArePages first count
+pub map-pages : (g : GuestState) (v : StorageView) (d : DiskView) (cpu number file first count : ℕ) (writable : Bool) → Fit g v d → Has g cpu (MapFile number file first count writable)
+    → (number < MAX_MAPPING_NUMBERS) × ArePages first count
 map-pages g v d cpu number file first count writable f has =
     let range = command-in_range g.plan cpu (processor_at g cpu).place (MapFile number file first count writable) f.sizes.range has.command in
     (range.0, range.2)
 
 -- where it isn't refused, a slot is free
-pub map-free : (g : GuestState) (v : StorageView) (d : DiskView) (cpu number file first count : ℕ) (writable : Bool) → Fit g v d → Starts g cpu (MapFile number file first count writable) → IsSome (free_slot g.parts.maps)
+pub map-free : (g : GuestState) (v : StorageView) (d : DiskView) (cpu number file first count : ℕ) (writable : Bool) → Fit g v d → Starts g cpu (MapFile number file first count writable)
+    → IsSome (free_slot g.parts.maps)
 map-free g v d cpu number file first count writable f starts = of (free_slot g.parts.maps) refl
   where
     of : (o : Option ℕ) → free_slot g.parts.maps ≡ o → IsSome o
@@ -176,7 +172,8 @@ writers-most g v d page f = omega (arith, f.entries.writers page, count_by-le-le
 -- ---- pins
 
 -- the numbers of a pin or an unpin
-pub pin-piece : (g : GuestState) (v : StorageView) (d : DiskView) (cpu : ℕ) (pins : Bool) (number index : ℕ) → Fit g v d → Has g cpu (pin_op pins number index) → (number < MAX_MAPPING_NUMBERS) × (index < MAX_MAPPING_PAGES)
+pub pin-piece : (g : GuestState) (v : StorageView) (d : DiskView) (cpu : ℕ) (pins : Bool) (number index : ℕ) → Fit g v d → Has g cpu (pin_op pins number index)
+    → (number < MAX_MAPPING_NUMBERS) × (index < MAX_MAPPING_PAGES)
 pin-piece g v d cpu true number index f has = command-in_range g.plan cpu (processor_at g cpu).place (Pin number index) f.sizes.range has.command
 pin-piece g v d cpu false number index f has = command-in_range g.plan cpu (processor_at g cpu).place (Unpin number index) f.sizes.range has.command
 
@@ -189,7 +186,8 @@ pins-most g v d page f = of (info_at g.parts.pages page).tag refl
     of (Some tag) e = omega (arith, f.pins.counted page tag e, pins_within-most g.parts.maps tag (length g.parts.maps.slots) MAX_MAPPING_PAGES, f.slots.slots)
 
 -- and the page of an unpin has one
-pub unpin-some : (g : GuestState) (v : StorageView) (d : DiskView) (cpu number index page : ℕ) → Fit g v d → Starts g cpu (Unpin number index) → HasItsTag g cpu (Unpin number index) page → 1 ≤ (info_at g.parts.pages page).pins
+pub unpin-some : (g : GuestState) (v : StorageView) (d : DiskView) (cpu number index page : ℕ) → Fit g v d → Starts g cpu (Unpin number index) → HasItsTag g cpu (Unpin number index) page
+    → 1 ≤ (info_at g.parts.pages page).pins
 unpin-some g v d cpu number index page f starts has =
     let tag = has.tag in
     let its = tag_in-Some g.parts (find_slot g.parts.maps (process_of g.plan cpu) number) index tag has.wants in
@@ -202,7 +200,8 @@ unpin-some g v d cpu number index page f starts has =
 -- ---- places and the journal
 
 -- a processor has at most so many commands
-pub place-below : (g : GuestState) (v : StorageView) (d : DiskView) (cpu : ℕ) (op : Op) → Fit g v d → command_of g.plan cpu (processor_at g cpu).place ≡ Some op → (processor_at g cpu).place < MAX_COMMANDS
+pub place-below : (g : GuestState) (v : StorageView) (d : DiskView) (cpu : ℕ) (op : Op) → Fit g v d → command_of g.plan cpu (processor_at g cpu).place ≡ Some op
+    → (processor_at g cpu).place < MAX_COMMANDS
 place-below g v d cpu op f command = omega (arith, command-below g.plan cpu (processor_at g cpu).place op command, commands_of-le g.plan cpu f.sizes.range)
 
 -- the plan with other processors
@@ -210,7 +209,7 @@ abbrev with_cpus : GuestPlan → List CpuPlan → GuestPlan
 with_cpus plan cpus = record plan { cpus = cpus }
 
 places-le : (plan : GuestPlan) (processors : List Processor) (cpus : List CpuPlan) → length processors ≡ length cpus
-    → ((q : ℕ) → q < length processors → (get_or processors q at_start).place ≤ commands_of (with_cpus plan cpus) q)
+    → ((q : ℕ) → q < length processors → (get_or processors q first_processor).place ≤ commands_of (with_cpus plan cpus) q)
     → sum_by (λ processor. processor.place) processors ≤ sum_by (λ cpu. length cpu.commands) cpus
 places-le plan [] [] size each = omega arith
 places-le plan [] (c ∷ cpus) size each = absurd (omega arith)
@@ -221,7 +220,8 @@ places-le plan (p ∷ processors) (c ∷ cpus) size each =
     omega (arith, first, rest, sum_by-cons (λ (x : Processor). x.place) p processors, sum_by-cons (λ (x : CpuPlan). length x.commands) c cpus)
 
 places-lt : (plan : GuestPlan) (cpu : ℕ) (processors : List Processor) (cpus : List CpuPlan) → length processors ≡ length cpus
-    → ((q : ℕ) → q < length processors → (get_or processors q at_start).place ≤ commands_of (with_cpus plan cpus) q) → cpu < length processors → (get_or processors cpu at_start).place < commands_of (with_cpus plan cpus) cpu
+    → ((q : ℕ) → q < length processors → (get_or processors q first_processor).place ≤ commands_of (with_cpus plan cpus) q) → cpu < length processors
+    → (get_or processors cpu first_processor).place < commands_of (with_cpus plan cpus) cpu
     → sum_by (λ processor. processor.place) processors < sum_by (λ cpu. length cpu.commands) cpus
 places-lt plan cpu [] [] size each below here = absurd (omega arith)
 places-lt plan cpu [] (c ∷ cpus) size each below here = absurd (omega arith)
@@ -240,7 +240,8 @@ pub journal-most : (g : GuestState) (v : StorageView) (d : DiskView) → Fit g v
 journal-most g v d f = omega (arith, places-le g.plan g.processors g.plan.cpus f.sizes.processors f.journal.within, f.journal.counted)
 
 -- while a command is left there is room for its entry
-pub journal-room : (g : GuestState) (v : StorageView) (d : DiskView) (cpu : ℕ) (op : Op) → Fit g v d → cpu < length g.processors → command_of g.plan cpu (processor_at g cpu).place ≡ Some op → length g.journal < all_commands g.plan
+pub journal-room : (g : GuestState) (v : StorageView) (d : DiskView) (cpu : ℕ) (op : Op) → Fit g v d → cpu < length g.processors → command_of g.plan cpu (processor_at g cpu).place ≡ Some op
+    → length g.journal < all_commands g.plan
 journal-room g v d cpu op f below command =
     omega (arith, places-lt g.plan cpu g.processors g.plan.cpus f.sizes.processors f.journal.within below (command-below g.plan cpu (processor_at g cpu).place op command), f.journal.counted)
 

@@ -2,7 +2,6 @@
 use Rattle.std.specs.Prelude.{◌≡◌, ◌<◌, ◌||◌, ℕ, List, length, Bool, true, false, Option, Some, None, Result, Ok, Err, refl}
 use Rattle.std.proofs.Common.{sym, ap, subst, inl, inr, ◌∙◌, ⊎_elim}
 use Rattle.cmm_types.specs.declared.page.Usage.TheVariants.{S, V}
-use Rattle.cmm_types.specs.declared.command.Cause.{Cause}
 use Rattle.cmm_types.specs.declared.command.Cause.TheVariants.{Disk, Paging, NoPage}
 use Rattle.cmm_io.specs.DiskView.{DiskView}
 use Rattle.essa_state.specs.PageValue.{PageValue, IsMadeUnused}
@@ -12,25 +11,25 @@ use Rattle.cmm_storage.specs.Program.{Program, done, DoesAlone}
 use Rattle.cmm_storage.specs.Views.{Seen, does_seen}
 use Rattle.guest_pages.specs.declared.info.PageInfo.{PageInfo}
 use Rattle.guest_pages.specs.PagesView.{info_at, with_pins}
-use Rattle.guest_pages.specs.PagesLaws.{info_at-with_info_same, length-with_info}
+use Rattle.guest_pages.specs.Laws.PagesLaws.{info_at-with_info_same, length-with_info}
 use Rattle.guest_cache.specs.CacheView.{backing_of}
 use Rattle.guest_maps.specs.MapsView.{entries_showing, with_entry, with_pinned}
-use Rattle.guest_maps.specs.MapsLaws.{entries_showing-without_same}
+use Rattle.guest_maps.specs.Laws.MapsLaws.{entries_showing-without_same}
 use Rattle.guest_rules.specs.declared.parts.Parts.{Parts}
 use Rattle.guest_rules.specs.declared.outcome.Gone.{Gone}
 use Rattle.guest_rules.specs.declared.outcome.Filled.{Filled}
 use Rattle.guest_rules.specs.declared.outcome.Filled.TheVariants.{Done, Again as FilledAgain, Fail as FilledFail}
 use Rattle.guest_rules.specs.declared.outcome.Missed.{Missed}
 use Rattle.guest_rules.specs.declared.outcome.Missed.TheVariants.{Gone as WasGone, Again as MissedAgain, Fail as MissedFail}
-use Rattle.guest_rules.specs.declared.outcome.Resolved.{Resolved}
-use Rattle.guest_rules.specs.declared.outcome.Resolved.TheVariants.{Mapped, Gone as EntryGone, Again as EntryAgain}
+use Rattle.guest_rules.specs.declared.outcome.Placed.{Placed}
+use Rattle.guest_rules.specs.declared.outcome.Placed.TheVariants.{Done as PlaceDone, Gone as PlaceGone, Again as PlaceAgain}
 use Rattle.guest_rules.specs.declared.outcome.Synced.{Synced}
 use Rattle.guest_rules.specs.declared.outcome.Synced.TheVariants.{Clean, Locked, Gone as SyncGone, Waits, Again as SyncAgain}
 use Rattle.guest_rules.specs.Hint.{hint}
 use Rattle.guest_rules.specs.Rows.{freed, handled, handler, rehint, tell, make_stable, read_page, write_page, load_page, store_through, pinned, pin_page, pins_after, mapped, resolve, filled, fill, backing_at, with_change}
 use Rattle.guest_rules.specs.Syncs.{locked, unlocked, cleaned, sync_page, sync_owned, write_back}
-use Rattle.guest_rules.specs.Answers.{HasTag, CanBeTold, HasBeenFilled, IsToBeFilled, IsToBeWritten, IsFree, IsHandled, WasDiscarded, MayBeDirty, IsHinted, IsRetold, StableAnswer, FailCause, MissedAnswer, EntryMissed, ReadAnswer, WriteAnswer, LoadAnswer, StoreAnswer, PinAnswer, ResolveAnswer, FillAnswer, LookAnswer, SyncAnswer, IsUnlocked, BackAnswer}
-use Rattle.guest_rules.proofs.Cases.TurnCases.{FillCause, IsRehinted}
+use Rattle.guest_rules.specs.Answers.{HasTag, CanBeTold, HasBeenFilled, IsToBeFilled, IsToBeWritten, IsFree, IsHandled, WasDiscarded, MayBeDirty, IsHinted, IsRetold, StableAnswer, MissedAnswer, EntryMissed, ReadAnswer, WriteAnswer, LoadAnswer, StoreAnswer, PinAnswer, ResolveAnswer, FillAnswer, LookAnswer, SyncAnswer, IsUnlocked, BackAnswer}
+use Rattle.guest_rules.proofs.Cases.TurnCases.{IsRehinted}
 use Rattle.guest_rules.proofs.Rows.ValueLaws.{hint-stale}
 use Rattle.guest_rules.proofs.Kept.RowChanges.{change-freed, freed-free, freed-maps, handled-pages, handled-maps, change-changed, change-filled, filled_info}
 use Rattle.guest_rules.proofs.Kept.SyncTables.{change-locked, change-unlocked, change-cleaned}
@@ -66,7 +65,8 @@ handled-is_free parts page below =
       next = (is.next.0, ap (λ pages. pages.free) (handled-pages parts page) ∙ is.next.1);
     }
 
-handled-is : (parts : Parts) (page : ℕ) (found : PageValue) (a : Parts) (w : StorageView) → page < length parts.pages.infos → a ≡ handled parts page → IsMadeUnused found (w.values page) → IsHandled parts page a w
+handled-is : (parts : Parts) (page : ℕ) (found : PageValue) (a : Parts) (w : StorageView) → page < length parts.pages.infos → a ≡ handled parts page → IsMadeUnused found (w.values page)
+    → IsHandled parts page a w
 unfolding handled
 handled-is parts page found a w below tables unused = record {
   free = subst (λ q. IsFree q page) (sym tables) (handled-is_free parts page below);
@@ -83,7 +83,8 @@ may_be_dirty : (parts : Parts) (page : ℕ) (changed : Bool) (a : Parts) → a �
 may_be_dirty parts page true a tables = inr tables
 may_be_dirty parts page false a tables = inl tables
 
-dirty-after : (parts : Parts) (page : ℕ) (changed : Bool) → page < length parts.pages.infos → (info_at (with_change parts page changed).pages page).dirty ≡ (changed || (info_at parts.pages page).dirty)
+dirty-after : (parts : Parts) (page : ℕ) (changed : Bool) → page < length parts.pages.infos
+    → (info_at (with_change parts page changed).pages page).dirty ≡ (changed || (info_at parts.pages page).dirty)
 dirty-after parts page true below = ap (λ i. i.dirty) (change-changed parts page true below).here
 dirty-after parts page false below = refl
 
@@ -167,7 +168,8 @@ rehint-says parts page v d a w e can run = by (info_at parts.pages page).uptodat
 usable : (parts : Parts) (page : ℕ) (v : StorageView) → HasBeenFilled parts page v → CanBeUsed parts page v
 usable parts page v can = record { tells = can.tells; hinted = is_used parts page can.has.tag can.has.below can.has.tagged; usage = can.used; filled = can.filled }
 
-missed-says : (parts : Parts) (page : ℕ) (v w : StorageView) (d e : DiskView) (a : Parts) (missed : Missed) → page < length parts.pages.infos → MissOutcome parts page v d a missed w e → MissedAnswer parts page v a missed w
+missed-says : (parts : Parts) (page : ℕ) (v w : StorageView) (d e : DiskView) (a : Parts) (missed : Missed) → page < length parts.pages.infos → MissOutcome parts page v d a missed w e
+    → MissedAnswer parts page v a missed w
 missed-says parts page v w d e a WasGone below k = discarded-is parts page v w d e a below k
 missed-says parts page v w d e a (MissedAgain why) below (tables, misses) =
     (⊎_elim (λ (same, may, disk). inl same) (λ (found, there). may_be_dirty parts page found.changed a there.rehinted.tables) tables, misses)
@@ -189,7 +191,8 @@ read-says parts page off len v d a r w e can run = of r (seen_read_page parts pa
 
 pub write-says : (parts : Parts) (page off : ℕ) (bytes : List ℕ) (v : StorageView) (d : DiskView) (a : Parts) (r : Result Unit Missed) (w : StorageView) (e : DiskView)
     → HasBeenFilled parts page v → Seen (write_page parts page off bytes) v d (a, r) w e → WriteAnswer parts page off bytes v a r w
-write-says parts page off bytes v d a r w e can run = of r (seen_write_page parts page off bytes v d a r w e (usable parts page v can) (can_be_dirty parts page can.has.tag can.has.below can.has.tagged) run)
+write-says parts page off bytes v d a r w e can run = of r (seen_write_page parts page off bytes v d a r w e (usable parts page v can)
+    (can_be_dirty parts page can.has.tag can.has.below can.has.tagged) run)
   where
     of : (r : Result Unit Missed) → WriteOutcome parts page off bytes v d a r w e → WriteAnswer parts page off bytes v a r w
     of (Ok u) k = (
@@ -202,7 +205,8 @@ write-says parts page off bytes v d a r w e can run = of r (seen_write_page part
 
 -- ---- the same through an entry
 
-entry_missed-says : (parts : Parts) (page : ℕ) (v w : StorageView) (d e : DiskView) (a : Parts) (missed : Missed) → page < length parts.pages.infos → EntryMiss parts page v d a missed w e → EntryMissed parts page v a missed w
+entry_missed-says : (parts : Parts) (page : ℕ) (v w : StorageView) (d e : DiskView) (a : Parts) (missed : Missed) → page < length parts.pages.infos → EntryMiss parts page v d a missed w e
+    → EntryMissed parts page v a missed w
 entry_missed-says parts page v w d e a WasGone below k = discarded-is parts page v w d e a below k
 entry_missed-says parts page v w d e a (MissedAgain why) below (tables, may, misses, disk) = (tables, misses)
 entry_missed-says parts page v w d e a (MissedFail Paging) below (tables, may, risen) = (tables, risen)
@@ -227,7 +231,8 @@ store-says parts page off bytes v d a r w e can run = of r (seen_store_through p
 
 -- ---- pins and entries
 
-pinned-pins : (parts : Parts) (page slot index : ℕ) (pins : Bool) → page < length parts.pages.infos → (info_at (pinned parts page slot index pins).pages page).pins ≡ pins_after pins (info_at parts.pages page).pins
+pinned-pins : (parts : Parts) (page slot index : ℕ) (pins : Bool) → page < length parts.pages.infos
+    → (info_at (pinned parts page slot index pins).pages page).pins ≡ pins_after pins (info_at parts.pages page).pins
 unfolding pinned with_pins
 pinned-pins parts page slot index pins below =
     ap (λ i. i.pins) (info_at-with_info_same parts.pages page (record (info_at parts.pages page) { pins = pins_after pins (info_at parts.pages page).pins }) below)
@@ -240,7 +245,7 @@ pinned-maps : (parts : Parts) (page slot index : ℕ) (pins : Bool) → (pinned 
 unfolding pinned
 pinned-maps parts page slot index pins = refl
 
-pub pin-says : (parts : Parts) (page slot index : ℕ) (pins : Bool) (v : StorageView) (d : DiskView) (a : Parts) (r : Result Unit Missed) (w : StorageView) (e : DiskView)
+pub pin-says : (parts : Parts) (page slot index : ℕ) (pins : Bool) (v : StorageView) (d : DiskView) (a : Parts) (r : Placed) (w : StorageView) (e : DiskView)
     → HasBeenFilled parts page v → Seen (pin_page parts page slot index pins) v d (a, r) w e → PinAnswer parts page slot index pins v a r w
 pin-says parts page slot index pins v d a r w e can run =
     of r (seen_pin_page parts page slot index pins v d a r w e (usable parts page v can) (is_used_pinned parts page slot index pins can.has.tag can.has.below can.has.tagged) run)
@@ -248,23 +253,23 @@ pin-says parts page slot index pins v d a r w e can run =
     middle : Parts
     middle = pinned parts page slot index pins
 
-    of : (r : Result Unit Missed) → PinOutcome parts page slot index pins v d a r w e → PinAnswer parts page slot index pins v a r w
-    of (Ok u) (found, k) = (
+    of : (r : Placed) → PinOutcome parts page slot index pins v d a r w e → PinAnswer parts page slot index pins v a r w
+    of PlaceDone (found, k) = (
       record {
         maps = ap (λ q. q.maps) k.rehinted.tables ∙ maps-after middle page found.changed ∙ pinned-maps parts page slot index pins;
         count = ap (λ q. (info_at q.pages page).pins) k.rehinted.tables ∙ pins-after middle page found.changed (rw pinned-size can.has.below) ∙ pinned-pins parts page slot index pins can.has.below;
       },
       hinted-is middle page found a w k.rehinted,
     )
-    of (Err WasGone) k = discarded-is parts page v w d e a can.has.below k
-    of (Err (MissedAgain why)) (tables, may, misses, disk) = (tables, misses)
-    of (Err (MissedFail cause)) k = k
+    of PlaceGone k = discarded-is parts page v w d e a can.has.below k
+    of (PlaceAgain why) (tables, may, misses, disk) = (tables, misses)
 
-mapped-maps : (parts : Parts) (page slot index : ℕ) (writable : Bool) → (mapped parts page slot index writable).maps ≡ with_entry parts.maps slot index (Some (record { page = page; writable = writable }))
+mapped-maps : (parts : Parts) (page slot index : ℕ) (writable : Bool)
+    → (mapped parts page slot index writable).maps ≡ with_entry parts.maps slot index (Some (record { page = page; writable = writable }))
 unfolding mapped
 mapped-maps parts page slot index writable = refl
 
-pub resolve-says : (parts : Parts) (page slot index : ℕ) (writable : Bool) (v : StorageView) (d : DiskView) (a : Parts) (r : Resolved) (w : StorageView) (e : DiskView)
+pub resolve-says : (parts : Parts) (page slot index : ℕ) (writable : Bool) (v : StorageView) (d : DiskView) (a : Parts) (r : Placed) (w : StorageView) (e : DiskView)
     → HasBeenFilled parts page v → Seen (resolve parts page slot index writable) v d (a, r) w e → ResolveAnswer parts page slot index writable v a r w
 resolve-says parts page slot index writable v d a r w e can run =
     of r (seen_resolve parts page slot index writable v d a r w e (usable parts page v can) (is_used_mapped parts page slot index writable can.has.tag can.has.below can.has.tagged) run)
@@ -272,20 +277,15 @@ resolve-says parts page slot index writable v d a r w e can run =
     middle : Parts
     middle = mapped parts page slot index writable
 
-    of : (r : Resolved) → ResolveOutcome parts page slot index writable v d a r w e → ResolveAnswer parts page slot index writable v a r w
-    of Mapped (found, k) = (
+    of : (r : Placed) → ResolveOutcome parts page slot index writable v d a r w e → ResolveAnswer parts page slot index writable v a r w
+    of PlaceDone (found, k) = (
       ap (λ q. q.maps) k.rehinted.tables ∙ maps-after middle page found.changed ∙ mapped-maps parts page slot index writable,
       hinted-is middle page found a w k.rehinted,
     )
-    of EntryGone k = discarded-is parts page v w d e a can.has.below k
-    of (EntryAgain why) (tables, may, misses, disk) = (tables, misses)
+    of PlaceGone k = discarded-is parts page v w d e a can.has.below k
+    of (PlaceAgain why) (tables, may, misses, disk) = (tables, misses)
 
 -- ---- a page that is filled
-
-cause-is : (cause : Cause) (v w : StorageView) (d e : DiskView) → FillCause cause v d w e → FailCause cause v d w e
-cause-is Disk v w d e k = k
-cause-is Paging v w d e k = k
-cause-is (NoPage pinned unslotted) v w d e k = k
 
 pub fill-says : (parts : Parts) (page : ℕ) (v : StorageView) (d : DiskView) (a : Parts) (r : Filled) (w : StorageView) (e : DiskView)
     → IsToBeFilled parts page v d → Seen (fill parts page) v d (a, r) w e → FillAnswer parts page v d a r w e
@@ -311,7 +311,7 @@ fill-says parts page v d a r w e can run = of r (seen_fill parts page v d a r w 
       };
     }
     of (FilledAgain why) (tables, may, misses, disk) = (tables, misses, disk)
-    of (FilledFail cause) (tables, back, unused, why) = (subst (λ q. IsFree q page) (sym tables) (freed-is_free parts page can.has.below), unused.usage, cause-is cause v w d e why)
+    of (FilledFail cause) (tables, back, unused, why) = (subst (λ q. IsFree q page) (sym tables) (freed-is_free parts page can.has.below), unused.usage, why)
 
 -- ---- a page that is synced
 
@@ -348,7 +348,8 @@ sync-says parts page cpu v d a r w e can run = by (info_at parts.pages page).own
     by None unlocked look = rw unlocked (of r (seen_look parts page cpu v d a r w e can.has.below (usable parts page v can) look))
 
 -- what stands of the unlocked page
-unlocked-is : (middle : Parts) (page : ℕ) (v w : StorageView) (a : Parts) (left : Bool) → page < length middle.pages.infos → (info_at middle.pages page).owner ≡ None → (info_at middle.pages page).dirty ≡ left
+unlocked-is : (middle : Parts) (page : ℕ) (v w : StorageView) (a : Parts) (left : Bool) → page < length middle.pages.infos → (info_at middle.pages page).owner ≡ None
+    → (info_at middle.pages page).dirty ≡ left
     → IsRehinted middle page (v.values page) a (w.values page) → IsUnlocked page v left a w
 unlocked-is middle page v w a left below owner dirty k = record {
   owner = ap (λ q. (info_at q.pages page).owner) k.tables ∙ owner-after middle page (v.values page).changed below ∙ owner;
@@ -373,8 +374,10 @@ write_back-says parts page v d a r w e can run = of r (seen_write_back parts pag
       backed_at = at;
       block = can.block;
       backs = sym at ∙ can.backed_by;
-      used_clean = is_used (cleaned parts page) page can.has.tag (rw (change-cleaned parts page can.has.below).size can.has.below) (ap (λ (i : PageInfo). i.tag) (change-cleaned parts page can.has.below).here ∙ can.has.tagged);
-      used_dirty = is_used (unlocked parts page) page can.has.tag (rw (change-unlocked parts page can.has.below).size can.has.below) (ap (λ (i : PageInfo). i.tag) (change-unlocked parts page can.has.below).here ∙ can.has.tagged);
+      used_clean = is_used (cleaned parts page) page can.has.tag (rw (change-cleaned parts page can.has.below).size can.has.below)
+          (ap (λ (i : PageInfo). i.tag) (change-cleaned parts page can.has.below).here ∙ can.has.tagged);
+      used_dirty = is_used (unlocked parts page) page can.has.tag (rw (change-unlocked parts page can.has.below).size can.has.below)
+          (ap (λ (i : PageInfo). i.tag) (change-unlocked parts page can.has.below).here ∙ can.has.tagged);
     }
 
     of : (r : Filled) → BackOutcome parts page can.has.tag v d a r w e → BackAnswer parts page v d a r w e
@@ -388,7 +391,7 @@ write_back-says parts page v d a r w e can run = of r (seen_write_back parts pag
         let c = change-unlocked parts page can.has.below in (
           unlocked-is (unlocked parts page) page v w a (info_at parts.pages page).dirty (rw c.size can.has.below) (ap (λ i. i.owner) c.here) (ap (λ i. i.dirty) c.here) told,
           back.blocks,
-          cause-is cause v w d e why,
+          why,
         )
 
 -- ---- runs that reach no disk
@@ -397,6 +400,7 @@ write_back-says parts page v d a r w e can run = of r (seen_write_back parts pag
 abbrev pub any_disk : DiskView
 any_disk = record { count = 0; blocks = None; faults = 0 }
 
-pub seen_alone : {A S : Type 0} (ss : S → StorageCall → S → Type 0) (sv : S → StorageView) (sm : (s : S) (call : StorageCall) (t : S) → ss s call t → Follows (sv s) call (sv t)) (p : Program A) (s : S) (a : A) (t : S)
+pub seen_alone : {A S : Type 0} (ss : S → StorageCall → S → Type 0) (sv : S → StorageView) (sm : (s : S) (call : StorageCall) (t : S) → ss s call t → Follows (sv s) call (sv t)) (p : Program A)
+    (s : S) (a : A) (t : S)
     → DoesAlone ss p s a t → Seen p (sv s) any_disk a (sv t) any_disk
 seen_alone ss sv sm p s a t run = does_seen ss (λ d call e. ⊥) sv (λ d. any_disk) sm (λ d call e h. absurd h) p s tt a t tt run

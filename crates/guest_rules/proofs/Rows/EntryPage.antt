@@ -8,7 +8,8 @@ use Rattle.cmm_io.specs.DiskView.{DiskView}
 use Rattle.essa_state.specs.PageValue.{PageValue, Bytes, MayBecome}
 use Rattle.cmm_storage.specs.declared.storage.Trap.{Trap}
 use Rattle.cmm_storage.specs.declared.storage.Trap.TheVariants.{Discarded, Paging, NoFrame}
-use Rattle.cmm_storage.specs.StorageView.{StorageView, Follows, Misses, bytes_of, told, touched_contents, write_at}
+use Rattle.cmm_storage.specs.StorageView.{StorageView, Follows, Misses, bytes_of, told, touched_contents}
+use Rattle.cmm_types.specs.Bytes.{with_bytes}
 use Rattle.cmm_storage.specs.StorageCall.{Touch}
 use Rattle.cmm_storage.specs.Program.{done, put_page}
 use Rattle.cmm_storage.specs.Views.{Seen, unbind, Keeps-trans}
@@ -91,7 +92,8 @@ LoadOutcome parts page off len v d a (Err missed) w e = EntryMiss parts page v d
 
 load_touch : (parts : Parts) (page off len : ℕ) (v m n : StorageView) (d : DiskView) (trap : Result Unit Trap) (a : Parts) (r : Result (List ℕ) Missed) (w : StorageView) (e : DiskView)
     → CanBeUsed parts page v → WasTaken page v m → Follows m (Touch page trap) n → Seen (load_touched page off len parts trap) n d (a, r) w e → LoadOutcome parts page off len v d a r w e
-load_touch parts page off len v m n d (Ok u) a r w e can taken follows (bytes, o, size, (keeps', nothing', still', held', bytes_are, _), (q, (keeps'', nothing'', still'', held'', value), (ea, em, ed))) =
+load_touch parts page off len v m n d (Ok u) a r w e can taken follows
+    (bytes, o, size, (keeps', nothing', still', held', bytes_are, _), (q, (keeps'', nothing'', still'', held'', value), (ea, em, ed))) =
     let x = touched parts page v m n can taken follows in
     let same : q.values page ≡ n.values page = value ∙ held'.1 in
     let may : MayBecome (v.values page) (q.values page) = rw same x.taken.may in
@@ -127,7 +129,7 @@ pub record HasStored (page off : ℕ) (v : StorageView) (d : DiskView) (w : Stor
   pub may : MayBecome (v.values page) found
   pub all : List ℕ
   pub are : found.contents ≡ Bytes all
-  pub value : w.values page ≡ record found { changed = true; contents = Bytes (write_at all off bytes) }
+  pub value : w.values page ≡ record found { changed = true; contents = Bytes (with_bytes all off bytes) }
 
 abbrev pub StoreOutcome : Parts → ℕ → ℕ → List ℕ → StorageView → DiskView → Parts → Result Unit Missed → StorageView → DiskView → Type 0
 StoreOutcome parts page off bytes v d a (Ok u) w e = (a ≡ parts) × HasStored page off v d w e bytes
@@ -138,8 +140,8 @@ store_touch : (parts : Parts) (page off : ℕ) (bytes : List ℕ) (v m n : Stora
 store_touch parts page off bytes v m n d (Ok u) a r w e can taken follows (o, (keeps', nothing', still', held', value', _), (q, (keeps'', nothing'', still'', held'', value), (ea, em, ed))) =
     let x = touched parts page v m n can taken follows in
     let er : r ≡ Ok tt = ap (λ q. q.1) ea in
-    let stored : Bytes (told n.tells (write_at (bytes_of (n.values page).contents) off bytes)) ≡ Bytes (write_at x.all off bytes) =
-    ap (λ q. Bytes (told q (write_at (bytes_of (n.values page).contents) off bytes))) (x.taken.keeps.tells ∙ can.tells) ∙ ap (λ q. Bytes (write_at (bytes_of q) off bytes)) x.are in
+    let stored : Bytes (told n.tells (with_bytes (bytes_of (n.values page).contents) off bytes)) ≡ Bytes (with_bytes x.all off bytes) =
+    ap (λ q. Bytes (told q (with_bytes (bytes_of (n.values page).contents) off bytes))) (x.taken.keeps.tells ∙ can.tells) ∙ ap (λ q. Bytes (with_bytes (bytes_of q) off bytes)) x.are in
     rw er (
       ap (λ q. q.0) ea,
       record {

@@ -15,7 +15,8 @@ use Rattle.essa_state.specs.PageValue.{PageValue, Bytes, IsValue, IsMadeUnused, 
 use Rattle.cmm_storage.specs.declared.storage.Trap.{Trap}
 use Rattle.cmm_storage.specs.declared.storage.Trap.TheVariants.{Discarded, Paging, NoFrame}
 use Rattle.cmm_storage.specs.StorageCall.{Touch}
-use Rattle.cmm_storage.specs.StorageView.{StorageView, Follows, Keeps, Misses, IsWhole, zeros, bytes_of, told, write_at}
+use Rattle.cmm_storage.specs.StorageView.{StorageView, Follows, Keeps, Misses, IsWhole, bytes_of, told}
+use Rattle.cmm_types.specs.Bytes.{with_bytes, zero_page}
 use Rattle.cmm_storage.specs.Program.{block_read}
 use Rattle.cmm_storage.specs.Views.{Seen, Keeps-trans}
 use Rattle.guest_pages.specs.PagesView.{info_at}
@@ -25,7 +26,8 @@ use Rattle.guest_rules.specs.declared.outcome.Filled.TheVariants.{Done, Again, F
 use Rattle.guest_rules.specs.Hint.{hint}
 use Rattle.guest_rules.specs.Rows.{filled, freed, with_change, fill, fill_with, fill_read, fill_from, fill_touched, give_up, backing_at}
 use Rattle.guest_rules.specs.Fit.{backed}
-use Rattle.guest_rules.proofs.Cases.TurnCases.{GivenBack, AllMay, FillCause}
+use Rattle.guest_rules.specs.Answers.{FailCause}
+use Rattle.guest_rules.proofs.Cases.TurnCases.{GivenBack, AllMay}
 use Rattle.guest_rules.proofs.Rows.Values.{may_stable, stable_there, made_stable-same, whole_write}
 use Rattle.guest_rules.proofs.Rows.Held.{IsUsed, seen_settle}
 use Rattle.guest_rules.proofs.Rows.Taken.{all_may, misses_around, risen_around}
@@ -45,7 +47,7 @@ filled_value parts page d old = record { usage = V; changed = false; contents = 
 abbrev pub FillOutcome : Parts → ℕ → StorageView → DiskView → Parts → Filled → StorageView → DiskView → Type 0
 FillOutcome parts page v d a Done w e = (a ≡ filled parts page) × GivenBack page v d w e × (w.values page ≡ filled_value parts page d (v.values page))
 FillOutcome parts page v d a (Again why) w e = (a ≡ parts) × AllMay v d w e × Misses v w × (e ≡ d)
-FillOutcome parts page v d a (Fail cause) w e = (a ≡ freed parts page) × GivenBack page v d w e × IsMadeUnused (v.values page) (w.values page) × FillCause cause v d w e
+FillOutcome parts page v d a (Fail cause) w e = (a ≡ freed parts page) × GivenBack page v d w e × IsMadeUnused (v.values page) (w.values page) × FailCause cause v d w e
 
 -- the page is held with the value that it had, and was made stable as it was
 record IsFillable (parts : Parts) (page : ℕ) (v : StorageView) (d : DiskView) (n : StorageView) : Type 0 where
@@ -66,13 +68,14 @@ record SameBlocks (d x : DiskView) : Type 0 where
   blocks : x.blocks ≡ d.blocks
 
 given_up : (parts : Parts) (page : ℕ) (cause : Cause) (v m : StorageView) (d x : DiskView) (a : Parts) (r : Filled) (w : StorageView) (e : DiskView)
-    → Keeps v page m → (m.values page).count ≡ (v.values page).count → SameBlocks d x → ((w : StorageView) → Keeps m page w → FillCause cause v d w x)
+    → Keeps v page m → (m.values page).count ≡ (v.values page).count → SameBlocks d x → ((w : StorageView) → Keeps m page w → FailCause cause v d w x)
     → Seen (give_up parts page cause) m x (a, r) w e → FillOutcome parts page v d a r w e
-given_up parts page cause v m d x a r w e keeps same blocks why (old, n, (keeps', nothing, still, holds, is_old, (was_done, unused), _, _), (o, (keeps'', nothing', still', held, value), (ea, em, ed))) =
+given_up parts page cause v m d x a r w e keeps same blocks why
+    (old, n, (keeps', nothing, still, holds, is_old, (was_done, unused), _, _), (o, (keeps'', nothing', still', held, value), (ea, em, ed))) =
     let er : r ≡ Fail cause = ap (λ q. q.1) ea in
     let after = Keeps-trans m n o page keeps' keeps'' in
     let unused' : IsMadeUnused (v.values page) (w.values page) = rw (em, value) (record { usage = unused.usage; changed = unused.changed; stands = unused.stands; count = unused.count ∙ same }) in
-    let cause_is : FillCause cause v d w e = rw (em, ed) (why o after) in
+    let cause_is : FailCause cause v d w e = rw (em, ed) (why o after) in
     rw er (
       ap (λ q. q.0) ea,
       record { keeps = rw em (Keeps-trans v m o page keeps after); held = rw em held; count = rw ed blocks.count; blocks = rw ed blocks.blocks },
@@ -82,7 +85,7 @@ given_up parts page cause v m d x a r w e keeps same blocks why (old, n, (keeps'
 
 -- all bytes of a touched page are stored
 stored : (tells : Bool) (value : PageValue) (all bytes : List ℕ) → tells ≡ true → value.contents ≡ Bytes all → length all ≡ length bytes
-    → Bytes (told tells (write_at (bytes_of value.contents) 0 bytes)) ≡ Bytes bytes
+    → Bytes (told tells (with_bytes (bytes_of value.contents) 0 bytes)) ≡ Bytes bytes
 stored tells value all bytes is_told are same = rw (is_told, are) (ap Bytes (whole_write all bytes same))
 
 filled_with : (parts : Parts) (page : ℕ) (bytes : List ℕ) (v n m : StorageView) (d x : DiskView) (a : Parts) (r : Filled) (w : StorageView) (e : DiskView)
@@ -109,8 +112,8 @@ filled_with parts page bytes v n m d x a r w e f keeps is blocks size are (o, (k
         → record y { usage = usage; changed = false } ≡ record { usage = V; changed = false; contents = Bytes those; count = old.count }
     of_fields usage y old those u b n = rw (u, b, n) refl
 
-zeros_size : length zeros ≡ PAGE
-unfolding zeros
+zeros_size : length zero_page ≡ PAGE
+unfolding zero_page
 zeros_size = length-replicate {A = ℕ} PAGE 0
 
 -- what a read of a block gave
@@ -130,7 +133,7 @@ filled_from : (parts : Parts) (page : ℕ) (block : Option ℕ) (v n m : Storage
 filled_from parts page (Some block) v n m d a r w e f keeps is at_block (was, bytes, x, follows, run) =
     filled_read parts page block v n m d x a r w e was bytes f keeps is at_block follows run
 filled_from parts page None v n m d a r w e f keeps is at_block run =
-    filled_with parts page zeros v n m d d a r w e f keeps is (record { count = refl; blocks = refl }) zeros_size (rw at_block refl) run
+    filled_with parts page zero_page v n m d d a r w e f keeps is (record { count = refl; blocks = refl }) zeros_size (rw at_block refl) run
 
 filled_touched : (parts : Parts) (page : ℕ) (v n m : StorageView) (d : DiskView) (a : Parts) (r : Filled) (w : StorageView) (e : DiskView) (trap : Result Unit Trap)
     → IsFillable parts page v d n → Follows n (Touch page trap) m → Seen (fill_touched parts page trap) m d (a, r) w e → FillOutcome parts page v d a r w e
@@ -159,7 +162,12 @@ unfolding fill
 seen_fill parts page v d a r w e can (Err busy, m, (keeps, misses, is_busy, held, may), (ea, em, ed)) =
     let er : r ≡ Again (WasBusy page busy.word) = ap (λ q. q.1) ea in
     rw er (ap (λ q. q.0) ea, all_may page v w d e (rw em keeps) (rw em held) (rw em may) ed, rw em misses, ed)
-seen_fill parts page v d a r w e can (Ok u, m, (keeps, nothing, still, holds, may, is_value, quiet, _), (old, n, (keeps', nothing', still', holds', is_old, (was_done, value), _, _), (trap, o, follows, run))) =
+seen_fill parts page v d a r w e can (
+  Ok u,
+  m,
+  (keeps, nothing, still, holds, may, is_value, quiet, _),
+  (old, n, (keeps', nothing', still', holds', is_old, (was_done, value), _, _), (trap, o, follows, run)),
+) =
     let same : m.values page ≡ v.values page = may_stable (v.values page) (m.values page) can.usage may in
     let there = stable_there (v.values page) can.usage can.value in
     let f : IsFillable parts page v d n = record {

@@ -28,7 +28,8 @@ abbrev pub ReadOutcome : Parts → ℕ → ℕ → ℕ → StorageView → DiskV
 ReadOutcome parts page off len v d a (Ok bytes) w e = HasRead parts page off len v d a w e bytes
 ReadOutcome parts page off len v d a (Err missed) w e = MissOutcome parts page v d a missed w e
 
-seen_touched : (parts : Parts) (page off len : ℕ) (found : PageValue) (v n m : StorageView) (d : DiskView) (a : Parts) (r : Result (List ℕ) Missed) (w : StorageView) (e : DiskView) (trap : Result Unit Trap)
+seen_touched : (parts : Parts) (page off len : ℕ) (found : PageValue) (v n m : StorageView) (d : DiskView) (a : Parts) (r : Result (List ℕ) Missed) (w : StorageView) (e : DiskView)
+    (trap : Result Unit Trap)
     → CanBeUsed parts page v → IsStable page found v n → Follows n (Touch page trap) m → Seen (read_touched page off len parts trap) m d (a, r) w e → ReadOutcome parts page off len v d a r w e
 seen_touched parts page off len found v n m d a r w e (Ok u) can x follows (bytes, o, size, (keeps, nothing, still, held, bytes_are, _), run) =
     let y = touched_stable page found v n m can.tells x follows in
@@ -40,7 +41,8 @@ seen_touched parts page off len found v n m d a r w e (Err trap) can x follows r
     let s = seen_untouched {R = List ℕ} parts page found v n m d trap (a, r) w e can x follows run in
     rw s.1 s.2
 
-seen_stable : (parts : Parts) (page off len : ℕ) (v m n : StorageView) (d y : DiskView) (after : Parts) (went : Result Unit Gone) (a : Parts) (r : Result (List ℕ) Missed) (w : StorageView) (e : DiskView)
+seen_stable : (parts : Parts) (page off len : ℕ) (v m n : StorageView) (d y : DiskView) (after : Parts) (went : Result Unit Gone) (a : Parts) (r : Result (List ℕ) Missed) (w : StorageView)
+    (e : DiskView)
     → CanBeUsed parts page v → WasTaken page v m → Stabled parts page m d after went n y
     → Seen (read_stable page off len after went) n y (a, r) w e → ReadOutcome parts page off len v d a r w e
 seen_stable parts page off len v m n d y after (Ok u) a r w e can taken (stays, tables, there, value) (trap, o, follows, run) =

@@ -8,7 +8,7 @@ use Rattle.essa_state.specs.PageValue.{PageValue, MayBecome, is_lost}
 use Rattle.cmm_storage.specs.StorageView.{StorageView, Keeps, Misses}
 use Rattle.cmm_storage.specs.Views.{Seen, unbind, Keeps-trans}
 use Rattle.guest_pages.specs.PagesView.{info_at, with_dirty}
-use Rattle.guest_pages.specs.PagesLaws.{info_at-with_info_same}
+use Rattle.guest_pages.specs.Laws.PagesLaws.{info_at-with_info_same}
 use Rattle.guest_rules.specs.declared.parts.Parts.{Parts}
 use Rattle.guest_rules.specs.declared.outcome.Gone.{Gone}
 use Rattle.guest_rules.specs.declared.outcome.Synced.{Synced}
@@ -67,7 +67,8 @@ seen_clean parts page cpu found false v n q d a r w e can x keeps was value same
 
 -- the change bit was taken
 seen_known : (parts : Parts) (page cpu : ℕ) (found : PageValue) (changed dirty : Bool) (v n q : StorageView) (d : DiskView) (a : Parts) (r : Synced) (w : StorageView) (e : DiskView)
-    → page < length parts.pages.infos → CanBeUsed parts page v → IsStable page found v n → Keeps n page q → changed ≡ (n.values page).changed → q.values page ≡ record (n.values page) { changed = false }
+    → page < length parts.pages.infos → CanBeUsed parts page v → IsStable page found v n → Keeps n page q → changed ≡ (n.values page).changed
+    → q.values page ≡ record (n.values page) { changed = false }
     → (info_at (with_change parts page changed).pages page).dirty ≡ dirty
     → Seen {A = Parts × Synced} (sync_known page cpu (with_change parts page changed) dirty) q d (a, r) w e → LookOutcome parts page cpu v d a r w e
 seen_known parts page cpu found changed true v n q d a r w e below can x keeps was value dirty (o, (keeps', nothing, still, held, value'), (ea, em, ed)) =

@@ -113,7 +113,8 @@ pub record IsTouched (page : ℕ) (found : PageValue) (v m : StorageView) : Type
 
 pub touched_stable : (page : ℕ) (found : PageValue) (v n m : StorageView) → v.tells ≡ true → IsStable page found v n → Follows n (Touch page (Ok tt)) m → IsTouched page found v m
 touched_stable page found v n m tells x (keeps, nothing, holds, there, value, whole, _, _) =
-    let contents : touched_contents n.tells (n.values page).contents ≡ (n.values page).contents = touched_same n.tells (n.values page).contents (ap (λ q. is_blank q.contents) x.value ∙ x.filled) there in
+    let contents : touched_contents n.tells (n.values page).contents ≡ (n.values page).contents =
+    touched_same n.tells (n.values page).contents (ap (λ q. is_blank q.contents) x.value ∙ x.filled) there in
     let same : m.values page ≡ n.values page = value ∙ ap (λ q. record (n.values page) { contents = q }) contents in
     let all = whole (x.keeps.tells ∙ tells) in
     record {

@@ -6,7 +6,8 @@ use Rattle.cmm_types.specs.declared.page.Usage.{Usage}
 use Rattle.cmm_types.specs.declared.page.Usage.TheVariants.{S, U}
 use Rattle.essa_state.specs.declared.orders.Order.TheVariants.{SetStableIf}
 use Rattle.essa_state.specs.PageValue.{PageValue, Contents, IsValue, StandsWith, OrderStep, LetsGo, MayBecome, is_lost, is_blank, made_stable}
-use Rattle.cmm_storage.specs.StorageView.{touched_contents, write_at}
+use Rattle.cmm_storage.specs.StorageView.{touched_contents}
+use Rattle.cmm_types.specs.Bytes.{with_bytes}
 
 -- a page that isn't blank is let go without a discard
 pub let_go : (x y : PageValue) (usage : Usage) (was_done : Bool) → is_blank x.contents ≡ false → LetsGo x usage was_done y → y ≡ record x { usage = usage }
@@ -42,5 +43,5 @@ pub unused_there : (contents : Contents) → StandsWith contents U false → is_
 unused_there contents h = grind arith
 
 -- a page of new bytes replaces all of the old ones
-pub whole_write : (old new : List ℕ) → length old ≡ length new → write_at old 0 new ≡ new
+pub whole_write : (old new : List ℕ) → length old ≡ length new → with_bytes old 0 new ≡ new
 whole_write old new h = grind (arith, common_steps)

@@ -24,7 +24,8 @@ use Rattle.guest_rules.specs.declared.outcome.Filled.{Filled}
 use Rattle.guest_rules.specs.declared.outcome.Filled.TheVariants.{Done, Again, Fail}
 use Rattle.guest_rules.specs.Rows.{rehint, with_change, backing_at}
 use Rattle.guest_rules.specs.Syncs.{unlocked, cleaned, write_back, back_touched, back_fetched, back_written, stay_dirty}
-use Rattle.guest_rules.proofs.Cases.TurnCases.{GivenBack, AllMay, FillCause, IsRehinted, WrittenBack}
+use Rattle.guest_rules.specs.Answers.{FailCause}
+use Rattle.guest_rules.proofs.Cases.TurnCases.{GivenBack, AllMay, IsRehinted, WrittenBack}
 use Rattle.guest_rules.proofs.Rows.Values.{may_stable, stable_there, touched_same}
 use Rattle.guest_rules.proofs.Rows.Held.{IsUsed, seen_settle, rehinted_value}
 use Rattle.guest_rules.proofs.Rows.Taken.{all_may, misses_around, risen_around}
@@ -45,7 +46,7 @@ abbrev pub BackOutcome : Parts → ℕ → Tag → StorageView → DiskView → 
 BackOutcome parts page tag v d a Done w e =
     (bytes : List ℕ) × ((v.values page).contents ≡ Bytes bytes) × WrittenBack page tag parts.cache bytes v d w e × IsRehinted (cleaned parts page) page (v.values page) a (w.values page)
 BackOutcome parts page tag v d a (Again why) w e = (a ≡ parts) × AllMay v d w e × Misses v w × (e ≡ d)
-BackOutcome parts page tag v d a (Fail cause) w e = GivenBack page v d w e × IsRehinted (unlocked parts page) page (v.values page) a (w.values page) × FillCause cause v d w e
+BackOutcome parts page tag v d a (Fail cause) w e = GivenBack page v d w e × IsRehinted (unlocked parts page) page (v.values page) a (w.values page) × FailCause cause v d w e
 
 -- the page is held with the value that it had
 record IsHeldSame (page : ℕ) (v n : StorageView) : Type 0 where
@@ -84,11 +85,11 @@ told_back parts answer page v m x a r w e used usage value filled same run =
 
 -- a page that stays dirty
 stayed : (parts : Parts) (page : ℕ) (tag : Tag) (cause : Cause) (v m : StorageView) (d x : DiskView) (a : Parts) (r : Filled) (w : StorageView) (e : DiskView)
-    → CanBeWritten parts page tag v → IsHeldSame page v m → x.count ≡ d.count → x.blocks ≡ d.blocks → ((w : StorageView) → Keeps m page w → FillCause cause v d w x)
+    → CanBeWritten parts page tag v → IsHeldSame page v m → x.count ≡ d.count → x.blocks ≡ d.blocks → ((w : StorageView) → Keeps m page w → FailCause cause v d w x)
     → Seen (stay_dirty parts page cause) m x (a, r) w e → BackOutcome parts page tag v d a r w e
 stayed parts page tag cause v m d x a r w e can same count blocks why run =
     let s = told_back (unlocked parts page) (Fail cause) page v m x a r w e can.used_dirty can.usage can.value can.filled same run in
-    let cause_is : FillCause cause v d w e = rw s.disk (why w s.later) in
+    let cause_is : FailCause cause v d w e = rw s.disk (why w s.later) in
     rw s.answered (record { keeps = s.keeps; held = s.held; count = rw s.disk count; blocks = rw s.disk blocks }, s.rehinted, cause_is)
 
 -- a page's bytes were fetched whole
@@ -120,7 +121,8 @@ fetched parts page tag None bytes v m d a r w e can same backs contents run = le
 touched : (parts : Parts) (page : ℕ) (tag : Tag) (v n m : StorageView) (d : DiskView) (trap : Result Unit Trap) (a : Parts) (r : Filled) (w : StorageView) (e : DiskView)
     → CanBeWritten parts page tag v → IsHeldSame page v n → Follows n (Touch page trap) m → Seen (back_touched parts page trap) m d (a, r) w e → BackOutcome parts page tag v d a r w e
 touched parts page tag v n m d (Ok u) a r w e can x (keeps, nothing, holds, there, value, whole, _, _) (bytes, o, size, (keeps', nothing', still', held', bytes_are, _), run) =
-    let contents : touched_contents n.tells (n.values page).contents ≡ (n.values page).contents = touched_same n.tells (n.values page).contents (ap (λ q. is_blank q.contents) x.value ∙ can.filled) there in
+    let contents : touched_contents n.tells (n.values page).contents ≡ (n.values page).contents =
+    touched_same n.tells (n.values page).contents (ap (λ q. is_blank q.contents) x.value ∙ can.filled) there in
     let same : m.values page ≡ n.values page = value ∙ ap (λ q. record (n.values page) { contents = q }) contents in
     let tells : n.tells ≡ true = x.keeps.tells ∙ can.tells in
     let all = whole tells in

@@ -5,7 +5,8 @@ use Rattle.cmm_types.specs.declared.page.Usage.TheVariants.{S, U}
 use Rattle.cmm_io.specs.DiskView.{DiskView}
 use Rattle.essa_state.specs.PageValue.{PageValue, Bytes, MayBecome, is_blank}
 use Rattle.cmm_storage.specs.declared.storage.Trap.{Trap}
-use Rattle.cmm_storage.specs.StorageView.{StorageView, Follows, Keeps, bytes_of, stored_value, write_at}
+use Rattle.cmm_storage.specs.StorageView.{StorageView, Follows, Keeps, bytes_of, stored_value}
+use Rattle.cmm_types.specs.Bytes.{with_bytes}
 use Rattle.cmm_storage.specs.StorageCall.{Touch}
 use Rattle.cmm_storage.specs.Program.{done, put_page, bind}
 use Rattle.cmm_storage.specs.Views.{Seen, unbind, Keeps-trans}
@@ -34,7 +35,7 @@ pub record HasWritten (parts : Parts) (page off : ℕ) (v : StorageView) (d : Di
   pub may : MayBecome (v.values page) found
   pub all : List ℕ
   pub are : found.contents ≡ Bytes all
-  pub value : w.values page ≡ record found { usage = S; changed = false; contents = Bytes (write_at all off bytes) }
+  pub value : w.values page ≡ record found { usage = S; changed = false; contents = Bytes (with_bytes all off bytes) }
 
 abbrev pub WriteOutcome : Parts → ℕ → ℕ → List ℕ → StorageView → DiskView → Parts → Result Unit Missed → StorageView → DiskView → Type 0
 WriteOutcome parts page off bytes v d a (Ok u) w e = HasWritten parts page off v d a w e bytes
@@ -49,18 +50,20 @@ record IsWritten (page off : ℕ) (bytes : List ℕ) (found : PageValue) (v o : 
   keeps : Keeps v page o
   all : List ℕ
   are : found.contents ≡ Bytes all
-  value : o.values page ≡ record found { usage = S; changed = true; contents = Bytes (write_at all off bytes) }
+  value : o.values page ≡ record found { usage = S; changed = true; contents = Bytes (with_bytes all off bytes) }
 
 -- its hint is told again, and it is given back
 settle_written : (parts : Parts) (page off : ℕ) (bytes : List ℕ) (found : PageValue) (v o : StorageView) (d : DiskView) (a : Parts) (r : Result Unit Missed) (w : StorageView) (e : DiskView)
     → CanBeDirty parts page → MayBecome (v.values page) found → IsWritten page off bytes found v o
     → Seen {A = Parts × Result Unit Missed} (bind (rehint (dirtied parts page) page) (λ after. put_page page (done (after, Ok tt)))) o d (a, r) w e → WriteOutcome parts page off bytes v d a r w e
 settle_written parts page off bytes found v o d a r w e dirty may x run =
-    let s = seen_settle {R = Result Unit Missed} (dirtied parts page) (Ok tt) page o d (a, r) w e (used_dirty parts page dirty) (ap (λ q. q.usage) x.value) (ap (λ q. is_blank q.contents) x.value) run in
+    let s = seen_settle {R = Result Unit Missed} (dirtied parts page) (Ok tt) page o d (a, r) w e (used_dirty parts page dirty) (ap (λ q. q.usage) x.value)
+    (ap (λ q. is_blank q.contents) x.value) run in
     let tables : a ≡ dirtied parts page = s.tables ∙ ap (λ (q : PageValue). with_change (dirtied parts page) page q.changed) x.value ∙ dirty.again in
-    let old : PageValue = record found { usage = S; changed = true; contents = Bytes (write_at x.all off bytes) } in
-    let value : w.values page ≡ record found { usage = S; changed = false; contents = Bytes (write_at x.all off bytes) } =
-    s.value ∙ ap (λ q. rehinted_value q page (o.values page)) tables ∙ ap (λ q. rehinted_value (dirtied parts page) page q) x.value ∙ ap (λ u. let q : PageValue = record old { usage = u; changed = false } in q) dirty.stable in
+    let old : PageValue = record found { usage = S; changed = true; contents = Bytes (with_bytes x.all off bytes) } in
+    let value : w.values page ≡ record found { usage = S; changed = false; contents = Bytes (with_bytes x.all off bytes) } =
+    s.value ∙ ap (λ q. rehinted_value q page (o.values page)) tables ∙ ap (λ q. rehinted_value (dirtied parts page) page q) x.value
+    ∙ ap (λ u. let q : PageValue = record old { usage = u; changed = false } in q) dirty.stable in
     rw s.answer (record {
       tables = tables;
       back = given_back page v w d e (Keeps-trans v o w page x.keeps s.keeps) s.held s.disk;
@@ -71,21 +74,24 @@ settle_written parts page off bytes found v o d a r w e dirty may x run =
       value = value;
     })
 
-seen_touched : (parts : Parts) (page off : ℕ) (bytes : List ℕ) (found : PageValue) (v n m : StorageView) (d : DiskView) (a : Parts) (r : Result Unit Missed) (w : StorageView) (e : DiskView) (trap : Result Unit Trap)
-    → CanBeUsed parts page v → CanBeDirty parts page → IsStable page found v n → Follows n (Touch page trap) m → Seen (write_touched page off bytes parts trap) m d (a, r) w e → WriteOutcome parts page off bytes v d a r w e
+seen_touched : (parts : Parts) (page off : ℕ) (bytes : List ℕ) (found : PageValue) (v n m : StorageView) (d : DiskView) (a : Parts) (r : Result Unit Missed) (w : StorageView) (e : DiskView)
+    (trap : Result Unit Trap)
+    → CanBeUsed parts page v → CanBeDirty parts page → IsStable page found v n → Follows n (Touch page trap) m → Seen (write_touched page off bytes parts trap) m d (a, r) w e
+    → WriteOutcome parts page off bytes v d a r w e
 seen_touched parts page off bytes found v n m d a r w e (Ok u) can dirty x follows (o, (keeps, nothing, still, held, value, _), run) =
     let y = touched_stable page found v n m can.tells x follows in
-    let stored : o.values page ≡ record found { usage = S; changed = true; contents = Bytes (write_at y.all off bytes) } =
+    let stored : o.values page ≡ record found { usage = S; changed = true; contents = Bytes (with_bytes y.all off bytes) } =
     value
     ∙ ap (λ t. stored_value t (m.values page) off bytes) (y.stable.keeps.tells ∙ can.tells)
-    ∙ ap (λ c. let q : PageValue = record (m.values page) { changed = true; contents = Bytes (write_at (bytes_of c) off bytes) } in q) y.here
-    ∙ ap (λ (q : PageValue). let z : PageValue = record q { changed = true; contents = Bytes (write_at y.all off bytes) } in z) y.stable.value in
+    ∙ ap (λ c. let q : PageValue = record (m.values page) { changed = true; contents = Bytes (with_bytes (bytes_of c) off bytes) } in q) y.here
+    ∙ ap (λ (q : PageValue). let z : PageValue = record q { changed = true; contents = Bytes (with_bytes y.all off bytes) } in z) y.stable.value in
     settle_written parts page off bytes found v o d a r w e dirty x.may (record { keeps = Keeps-trans v m o page y.stable.keeps keeps; all = y.all; are = y.are; value = stored }) run
 seen_touched parts page off bytes found v n m d a r w e (Err trap) can dirty x follows run =
     let s = seen_untouched {R = Unit {0}} parts page found v n m d trap (a, r) w e can x follows run in
     rw s.1 s.2
 
-seen_stable : (parts : Parts) (page off : ℕ) (bytes : List ℕ) (v m n : StorageView) (d y : DiskView) (after : Parts) (went : Result Unit Gone) (a : Parts) (r : Result Unit Missed) (w : StorageView) (e : DiskView)
+seen_stable : (parts : Parts) (page off : ℕ) (bytes : List ℕ) (v m n : StorageView) (d y : DiskView) (after : Parts) (went : Result Unit Gone) (a : Parts) (r : Result Unit Missed)
+    (w : StorageView) (e : DiskView)
     → CanBeUsed parts page v → CanBeDirty parts page → WasTaken page v m → Stabled parts page m d after went n y
     → Seen (write_stable page off bytes after went) n y (a, r) w e → WriteOutcome parts page off bytes v d a r w e
 seen_stable parts page off bytes v m n d y after (Ok u) a r w e can dirty taken (stays, tables, there, value) (trap, o, follows, run) =

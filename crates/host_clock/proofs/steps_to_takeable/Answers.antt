@@ -9,7 +9,8 @@ returns-in_err-steps-in-None-clause-first c =
 
 pub returns-in-Some-clause-first : goal.returns-in-Some-clause-first
 returns-in-Some-clause-first c =
-    cycle_place (is_takeable c.args.in_need) c.args.words.now c.args.hand (Some c.in-Some.steps) (position (is_takeable c.args.in_need) (take c.args.hand c.args.words.now)) (omega arith) c.in-Some.ensures.first refl
+    cycle_place (is_takeable c.args.in_need) c.args.words.now c.args.hand (Some c.in-Some.steps) (position (is_takeable c.args.in_need) (take c.args.hand c.args.words.now))
+    (omega arith) c.in-Some.ensures.first refl
 
 pub returns-in_ok-steps-in-None-clause-first : goal.returns-in_ok-steps-in-None-clause-first
 returns-in_ok-steps-in-None-clause-first c =

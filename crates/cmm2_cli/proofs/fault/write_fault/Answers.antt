@@ -1,5 +1,5 @@
 use Rattle.std.proofs.Common.{◌++◌, codes}
-use Rattle.cmm_io.specs.SinkBytesLaws.{Writes-then, Writes-stop}
+use Rattle.cmm_io.specs.Laws.SinkBytesLaws.{Writes-then, Writes-stop}
 use Rattle.cmm2_cli.proofs.fault.write_fault.Goals as goal
 
 pub returns-in_err-write_path : goal.returns-in_err-write_path

@@ -1,5 +1,5 @@
 use Rattle.std.proofs.Common.{false}
-use Rattle.cmm_io.specs.SinkBytesLaws.{Writes-then, Writes-stop}
+use Rattle.cmm_io.specs.Laws.SinkBytesLaws.{Writes-then, Writes-stop}
 use Rattle.cmm_report.specs.Lines.{head_line}
 use Rattle.cmm_report.specs.Report.{events_text}
 use Rattle.cmm2_cli.proofs.report.write_answers.Goals as goal

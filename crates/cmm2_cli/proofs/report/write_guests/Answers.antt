@@ -1,6 +1,6 @@
 use Rattle.std.proofs.Common.{◌≡◌, ◌<◌, ◌+◌, ◌++◌, length, Ok, sym, ap, subst, arith}
 use Rattle.cmm_io.specs.SinkBytes.{Writes}
-use Rattle.cmm_io.specs.SinkBytesLaws.{Writes-then, Writes-stop, Writes-nothing}
+use Rattle.cmm_io.specs.Laws.SinkBytesLaws.{Writes-then, Writes-stop, Writes-nothing}
 use Rattle.cmm_io.specs.declared.write.WriteFault.{WriteFault}
 use Rattle.cmm_report.specs.Report.{guest_text, guests_text}
 use Rattle.cmm2_cli.specs.Reports.{guest_report, reports_from}
@@ -17,7 +17,8 @@ returns-in_err-write_one_guest g c =
     let below : guest < length w.guests = omega (arith, c.loop-guest-test.true, c.guests-guest-end.ensures) in
     c.loop-guest.invariant _ _
     (subst (λ text. Writes g.K.Sink.faults g.K.Sink.written c.loop-guest.out c.write_one_guest.new.out text c.from_residual.result) (sym (text_next w guest below))
-    (Writes-stop g.K.Sink.faults g.K.Sink.written _ _ (guest_text guest (guest_report w guest)) (guests_text (guest + 1) (reports_from w (guest + 1))) _ _ c.from_residual.ensures.0 c.in_err-write_one_guest.ensures))
+    (Writes-stop g.K.Sink.faults g.K.Sink.written _ _ (guest_text guest (guest_report w guest))
+    (guests_text (guest + 1) (reports_from w (guest + 1))) _ _ c.from_residual.ensures.0 c.in_err-write_one_guest.ensures))
 
 pub loop-guest-preserved : goal.loop-guest-preserved
 loop-guest-preserved g c =

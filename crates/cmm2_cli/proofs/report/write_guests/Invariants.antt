@@ -7,5 +7,6 @@ use Rattle.cmm2_cli.proofs.report.write_guests.Given as goal
 
 -- who writes the guests that are left has written all of them
 abbrev pub invariant-loop-guest : goal.invariant-loop-guest
-invariant-loop-guest g l = (out : g.row.K.Denot) (result : Result (Unit {0}) WriteFault) → Writes g.K.Sink.faults g.K.Sink.written l.out out (guests_text l.guest (reports_from l.world.state l.guest)) result
+invariant-loop-guest g l = (out : g.row.K.Denot) (result : Result (Unit {0}) WriteFault)
+    → Writes g.K.Sink.faults g.K.Sink.written l.out out (guests_text l.guest (reports_from l.world.state l.guest)) result
     → Writes g.K.Sink.faults g.K.Sink.written l.fn.out out (guests_text 0 (reports_of l.world.state)) result

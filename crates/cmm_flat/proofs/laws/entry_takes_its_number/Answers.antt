@@ -1,4 +1,4 @@
-use Rattle.cmm_flat.specs.LegalLaws.{progress_of-after_other, next-after}
+use Rattle.cmm_flat.specs.Laws.LegalLaws.{progress_of-after_other, next-after}
 use Rattle.cmm_flat.proofs.laws.entry_takes_its_number.Goals as goal
 
 pub returns-clause-others : goal.returns-clause-others

@@ -1,4 +1,4 @@
-use Rattle.cmm_flat.specs.FlatLaws.{never_fails}
+use Rattle.cmm_flat.specs.Laws.FlatLaws.{never_fails}
 use Rattle.cmm_flat.proofs.laws.flat_never_fails.Goals as goal
 
 pub returns : goal.returns

@@ -1,5 +1,5 @@
 use Rattle.cmm_flat.specs.Legal.{start_of}
-use Rattle.cmm_flat.specs.LegalLaws.{walk_of-push, LegalFrom-push}
+use Rattle.cmm_flat.specs.Laws.LegalLaws.{walk_of-push, LegalFrom-push}
 use Rattle.cmm_flat.proofs.laws.journal_grows.Goals as goal
 
 pub returns-clause-legal : goal.returns-clause-legal

@@ -1,4 +1,4 @@
-use Rattle.cmm_flat.specs.RangeLaws.{bytes_at-with_bytes_below, bytes_at-with_bytes_above, bytes_at-with_bytes_round}
+use Rattle.cmm_flat.specs.Laws.RangeLaws.{bytes_at-with_bytes_below, bytes_at-with_bytes_above, bytes_at-with_bytes_round}
 use Rattle.cmm_flat.proofs.laws.ranges_apart.Goals as goal
 
 pub returns-clause-below : goal.returns-clause-below

@@ -1,4 +1,4 @@
-use Rattle.cmm_flat.specs.FlatLaws.{refusal-lengths}
+use Rattle.cmm_flat.specs.Laws.FlatLaws.{refusal-lengths}
 use Rattle.std.proofs.Common.{refl}
 use Rattle.cmm_flat.proofs.laws.refusals_depend_on_lengths.Goals as goal
 

@@ -1,5 +1,5 @@
-use Rattle.cmm_flat.specs.FlatLaws.{lengths-flat_step, sound-flat_step}
-use Rattle.cmm_flat.specs.LegalLaws.{sound-start, sound-after}
+use Rattle.cmm_flat.specs.Laws.FlatLaws.{lengths-flat_step, sound-flat_step}
+use Rattle.cmm_flat.specs.Laws.LegalLaws.{sound-start, sound-after}
 use Rattle.cmm_flat.proofs.laws.steps_stay_sound.Goals as goal
 
 pub returns-clause-lengths : goal.returns-clause-lengths

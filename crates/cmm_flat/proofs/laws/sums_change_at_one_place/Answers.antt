@@ -1,4 +1,4 @@
-use Rattle.cmm_flat.specs.SumLaws.{sum_over-insert, sum_over-remove}
+use Rattle.cmm_flat.specs.Laws.SumLaws.{sum_over-insert, sum_over-remove}
 use Rattle.cmm_flat.proofs.laws.sums_change_at_one_place.Goals as goal
 
 pub returns-clause-insert : goal.returns-clause-insert

@@ -16,5 +16,6 @@ pub returns-then-is_err-clause-no_memory : goal.returns-then-is_err-clause-no_me
 returns-then-is_err-clause-no_memory g c =
     let kept = c.loop-piece.invariant in
     let more = take c.in-Ok.n c.read.new.buf in
-    let few : length more ≤ c.args.limit + 1 - vec_len c.loop-piece.bytes = omega (arith, c.in-Ok.ensures.fits, length-take c.in-Ok.n c.read.new.buf, length-take c.min-most.result c.loop-piece.piece, c.min-most.ensures, c.len-in-loop-piece.ensures) in λ _.
+    let few : length more ≤ c.args.limit + 1 - vec_len c.loop-piece.bytes =
+    omega (arith, c.in-Ok.ensures.fits, length-take c.in-Ok.n c.read.new.buf, length-take c.min-most.result c.loop-piece.piece, c.min-most.ensures, c.len-in-loop-piece.ensures) in λ _.
     (c.loop-piece.bytes.items ++ more, omega (arith, length-append c.loop-piece.bytes.items more), HasTaken-then g.S.Source.rest g.S.Source.given _ _ _ _ _ kept.taken c.in-Ok.ensures.takes)

@@ -2,7 +2,7 @@ use Rattle.std.proofs.Common.{◌≡◌, ◌-◌, ap, subst, take, drop, length,
 use Rattle.std.specs.Io.KnownBytes.{Appends}
 use Rattle.std.proofs.lemmas.List.{take_rest, length-drop}
 use Rattle.cmm_io.specs.SinkBytes.{Writes}
-use Rattle.cmm_io.specs.SinkBytesLaws.{Writes-then}
+use Rattle.cmm_io.specs.Laws.SinkBytesLaws.{Writes-then}
 use Rattle.cmm_io.specs.declared.write.WriteFault.{WriteFault}
 use Rattle.cmm_io.proofs.Progress.{take_then}
 use Rattle.cmm_io.proofs.write.write_all.Goals as goal
@@ -25,5 +25,6 @@ loop-done-preserved g c =
       never_falls = ok.never_falls;
     } in record {
       most = omega (arith, ok.fits, ap length slice, length-drop done piece, kept.most);
-      wrote = subst (λ text. Writes faults written c.args.out.now c.write.new.self text {T = Unit {0}} {E = WriteFault} (Ok tt)) (take_then piece done c.in-Ok.n) (Writes-then faults written _ _ _ _ _ tt (Ok tt) kept.wrote more);
+      wrote = subst (λ text. Writes faults written c.args.out.now c.write.new.self text {T = Unit {0}} {E = WriteFault} (Ok tt)) (take_then piece done c.in-Ok.n)
+          (Writes-then faults written _ _ _ _ _ tt (Ok tt) kept.wrote more);
     }

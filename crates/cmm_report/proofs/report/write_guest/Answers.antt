@@ -1,6 +1,6 @@
 use Rattle.std.proofs.Common.{◌≡◌, ◌∙◌, ◌++◌, ap, subst, length, rules}
 use Rattle.cmm_io.specs.SinkBytes.{Writes}
-use Rattle.cmm_io.specs.SinkBytesLaws.{Writes-then, Writes-stop}
+use Rattle.cmm_io.specs.Laws.SinkBytesLaws.{Writes-then, Writes-stop}
 use Rattle.cmm_report.specs.Lines.{guest_line}
 use Rattle.cmm_report.specs.Report.{journal_text}
 use Rattle.cmm_report.proofs.report.write_guest.Goals as goal

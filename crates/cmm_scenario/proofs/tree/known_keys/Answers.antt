@@ -7,9 +7,11 @@ use Rattle.cmm_scenario.proofs.tree.known_keys.Goals as goal
 pub returns-then-all_among : goal.returns-then-all_among
 returns-then-all_among c =
     let entries = c.in-Some.members.now.entries in
-    sym (known_keys_given (texts c.args.names.now) (view c.args.value.now) (members_view entries) true c.in-Some.ensures (sym (keys-all_among c.args.names.now entries) ∙ sym c.all_among.ensures ∙ c.if-all_among.true))
+    sym (known_keys_given (texts c.args.names.now) (view c.args.value.now) (members_view entries) true c.in-Some.ensures
+    (sym (keys-all_among c.args.names.now entries) ∙ sym c.all_among.ensures ∙ c.if-all_among.true))
 
 pub returns-else-all_among : goal.returns-else-all_among
 returns-else-all_among c =
     let entries = c.in-Some.members.now.entries in
-    sym (known_keys_given (texts c.args.names.now) (view c.args.value.now) (members_view entries) false c.in-Some.ensures (sym (keys-all_among c.args.names.now entries) ∙ sym c.all_among.ensures ∙ c.if-all_among.false))
+    sym (known_keys_given (texts c.args.names.now) (view c.args.value.now) (members_view entries) false c.in-Some.ensures
+    (sym (keys-all_among c.args.names.now entries) ∙ sym c.all_among.ensures ∙ c.if-all_among.false))

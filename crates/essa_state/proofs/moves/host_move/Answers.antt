@@ -1,4 +1,4 @@
-use Rattle.essa_state.specs.PageValueLaws.{move-may_become}
+use Rattle.essa_state.specs.Laws.PageValueLaws.{move-may_become}
 use Rattle.essa_state.proofs.moves.host_move.Goals as goal
 
 pub returns-in-Ok-clause-value : goal.returns-in-Ok-clause-value

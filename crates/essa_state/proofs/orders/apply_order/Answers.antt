@@ -1,7 +1,7 @@
 use Rattle.std.proofs.Common.{◌≡◌}
 use Rattle.essa_state.specs.Orders.{after_order}
-use Rattle.essa_state.specs.WordLaws.{ordered-permitted}
-use Rattle.essa_state.specs.PageValueLaws.{ordered-value}
+use Rattle.essa_state.specs.Laws.WordLaws.{ordered-permitted}
+use Rattle.essa_state.specs.Laws.PageValueLaws.{ordered-value}
 use Rattle.essa_state.proofs.orders.apply_order.Goals as goal
 
 pub new-requires : goal.new-requires

@@ -1,9 +1,9 @@
 use Rattle.std.proofs.Common.{◌≡◌, List, length, rules, arith, ap, sym, subst, ◌∙◌, vec_len}
 use Rattle.std.specs.Prelude.{All}
 use Rattle.page_arena.specs.FrameView.{FrameView, IsOf, first_frames}
-use Rattle.page_arena.specs.FrameLaws.{first_frames_count, first_frames_are_of}
+use Rattle.page_arena.specs.Laws.FrameLaws.{first_frames_count, first_frames_are_of}
 use Rattle.frame_pool.specs.Seats.{AreNumbered, first_region}
-use Rattle.frame_pool.specs.PoolLaws.{first_frames_numbered, first_frames_are_one_region}
+use Rattle.frame_pool.specs.Laws.PoolLaws.{first_frames_numbered, first_frames_are_one_region}
 use Rattle.frame_pool.proofs.tests.open.Goals as goal
 
 pub open-requires : goal.open-requires

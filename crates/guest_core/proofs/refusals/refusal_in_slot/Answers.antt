@@ -1,5 +1,5 @@
 use Rattle.std.proofs.Common.{sym, ap, ◌∙◌}
-use Rattle.guest_maps.specs.MapsLaws.{spot_at-some}
+use Rattle.guest_maps.specs.Laws.MapsLaws.{spot_at-some}
 use Rattle.guest_rules.specs.Turns.{refusal_of_pin}
 use Rattle.guest_core.proofs.Spots.{refusal-outside, refusal-placed}
 use Rattle.guest_core.proofs.refusals.refusal_in_slot.Goals as goal

@@ -4,5 +4,7 @@ use Rattle.guest_fault.proofs.entry.resolve.Goals as goal
 
 pub returns-clause-answer : goal.returns-clause-answer
 returns-clause-answer g c can =
-    resolve-says c.args.parts.now c.args.page c.args.slot c.args.index c.args.writable _ any_disk c.run_resolve.new.parts c.run_resolve.result _ any_disk can
-    (seen_alone g.St.Storage.step g.St.Storage.view g.met.St.Storage.meets (resolve c.args.parts.now c.args.page c.args.slot c.args.index c.args.writable) c.args.st.now (c.run_resolve.new.parts, c.run_resolve.result) c.run_resolve.new.st c.run_resolve.ensures.row)
+    let call = c.run_resolve in
+    let program = resolve c.args.parts.now c.args.page c.args.slot c.args.index c.args.writable in
+    let seen = seen_alone g.St.Storage.step g.St.Storage.view g.met.St.Storage.meets program c.args.st.now (call.new.parts, call.result) call.new.st call.ensures.row in
+    resolve-says c.args.parts.now c.args.page c.args.slot c.args.index c.args.writable _ any_disk call.new.parts call.result _ any_disk can seen

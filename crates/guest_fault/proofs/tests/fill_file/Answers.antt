@@ -1,8 +1,25 @@
-use Rattle.std.proofs.Common.{◌<◌, arith, sym, ap, ◌∙◌}
+use Rattle.std.proofs.Common.{arith, rules, ap, ◌∙◌}
 use Rattle.cmm_types.specs.declared.plan.TheConstants.{MAX_MAPPING_SLOTS}
-use Rattle.guest_maps.specs.MapsView.{MapsView, opening_maps}
-use Rattle.guest_maps.specs.MapsLaws.{pages-opening}
+use Rattle.guest_pages.specs.PagesView.{popped, with_tag, with_info}
+use Rattle.guest_cache.specs.CacheView.{with_page}
+use Rattle.guest_maps.specs.MapsView.{MapsView}
+use Rattle.guest_maps.specs.Laws.MapsLaws.{pages-opening}
 use Rattle.guest_fault.proofs.tests.fill_file.Goals as goal
 
-pub fill-filled-requires-clause-shown : goal.fill-filled-requires-clause-shown
-fill-filled-requires-clause-shown c = omega (arith, ap (λ (m : MapsView). m.pages) c.in_ok-open-3.ensures ∙ pages-opening 1 MAX_MAPPING_SLOTS)
+pub fill-filled-requires : goal.fill-filled-requires
+unfolding popped with_tag with_info with_page
+fill-filled-requires c = record {
+  fills = record {
+    takes = record {
+      in_use = record {
+        below = search rules;
+        shown = omega (arith, ap (λ (m : MapsView). m.pages) c.in_ok-open-3.ensures ∙ pages-opening 1 MAX_MAPPING_SLOTS);
+        not_free = search rules;
+        tag = search rules;
+      };
+      there = search rules;
+      none_held = search rules;
+    };
+    block = search rules;
+  };
+}

@@ -4,5 +4,7 @@ use Rattle.guest_hint.proofs.held.make_stable.Goals as goal
 
 pub returns-clause-answer : goal.returns-clause-answer
 returns-clause-answer g c =
-    make_stable-says c.args.parts.now c.args.page _ any_disk c.run_make_stable.new.parts c.run_make_stable.result _ any_disk c.requires.page
-    (seen_alone g.St.Storage.step g.St.Storage.view g.met.St.Storage.meets (make_stable c.args.parts.now c.args.page) c.args.st.now (c.run_make_stable.new.parts, c.run_make_stable.result) c.run_make_stable.new.st c.run_make_stable.ensures.row)
+    let call = c.run_make_stable in
+    let program = make_stable c.args.parts.now c.args.page in
+    let seen = seen_alone g.St.Storage.step g.St.Storage.view g.met.St.Storage.meets program c.args.st.now (call.new.parts, call.result) call.new.st call.ensures.row in
+    make_stable-says c.args.parts.now c.args.page _ any_disk call.new.parts call.result _ any_disk c.requires.taken.in_use.below seen

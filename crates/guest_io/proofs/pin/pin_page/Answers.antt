@@ -4,5 +4,7 @@ use Rattle.guest_io.proofs.pin.pin_page.Goals as goal
 
 pub returns-clause-answer : goal.returns-clause-answer
 returns-clause-answer g c can =
-    pin-says c.args.parts.now c.args.page c.args.slot c.args.index c.args.pins _ any_disk c.run_pin_page.new.parts c.run_pin_page.result _ any_disk can
-    (seen_alone g.St.Storage.step g.St.Storage.view g.met.St.Storage.meets (pin_page c.args.parts.now c.args.page c.args.slot c.args.index c.args.pins) c.args.st.now (c.run_pin_page.new.parts, c.run_pin_page.result) c.run_pin_page.new.st c.run_pin_page.ensures.row)
+    let call = c.run_pin_page in
+    let program = pin_page c.args.parts.now c.args.page c.args.slot c.args.index c.args.pins in
+    let seen = seen_alone g.St.Storage.step g.St.Storage.view g.met.St.Storage.meets program c.args.st.now (call.new.parts, call.result) call.new.st call.ensures.row in
+    pin-says c.args.parts.now c.args.page c.args.slot c.args.index c.args.pins _ any_disk call.new.parts call.result _ any_disk can seen

@@ -4,5 +4,7 @@ use Rattle.guest_io.proofs.sync.sync_page.Goals as goal
 
 pub returns-clause-answer : goal.returns-clause-answer
 returns-clause-answer g c can =
-    sync-says c.args.parts.now c.args.page c.args.cpu _ any_disk c.run_sync_page.new.parts c.run_sync_page.result _ any_disk can
-    (seen_alone g.St.Storage.step g.St.Storage.view g.met.St.Storage.meets (sync_page c.args.parts.now c.args.page c.args.cpu) c.args.st.now (c.run_sync_page.new.parts, c.run_sync_page.result) c.run_sync_page.new.st c.run_sync_page.ensures.row)
+    let call = c.run_sync_page in
+    let program = sync_page c.args.parts.now c.args.page c.args.cpu in
+    let seen = seen_alone g.St.Storage.step g.St.Storage.view g.met.St.Storage.meets program c.args.st.now (call.new.parts, call.result) call.new.st call.ensures.row in
+    sync-says c.args.parts.now c.args.page c.args.cpu _ any_disk call.new.parts call.result _ any_disk can seen

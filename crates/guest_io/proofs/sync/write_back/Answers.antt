@@ -5,5 +5,10 @@ use Rattle.guest_io.proofs.sync.write_back.Goals as goal
 
 pub returns-clause-answer : goal.returns-clause-answer
 returns-clause-answer g c can =
-    write_back-says c.args.parts.now c.args.page _ _ c.run_write_back.new.parts c.run_write_back.result _ _ can
-    (does_seen g.St.Storage.step g.D.Disk.step g.St.Storage.view g.D.Disk.view g.met.St.Storage.meets g.met.D.Disk.meets (write_back c.args.parts.now c.args.page) c.args.st.now c.args.disk.now (c.run_write_back.new.parts, c.run_write_back.result) c.run_write_back.new.st c.run_write_back.new.disk c.run_write_back.ensures.row)
+    let call = c.run_write_back in
+    let program = write_back c.args.parts.now c.args.page in
+    let seen =
+    does_seen g.St.Storage.step g.D.Disk.step g.St.Storage.view g.D.Disk.view g.met.St.Storage.meets g.met.D.Disk.meets program
+    c.args.st.now c.args.disk.now (call.new.parts, call.result) call.new.st call.new.disk call.ensures.row
+    in
+    write_back-says c.args.parts.now c.args.page _ _ call.new.parts call.result _ _ can seen

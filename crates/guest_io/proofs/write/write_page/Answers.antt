@@ -4,5 +4,7 @@ use Rattle.guest_io.proofs.write.write_page.Goals as goal
 
 pub returns-clause-answer : goal.returns-clause-answer
 returns-clause-answer g c can =
-    write-says c.args.parts.now c.args.page c.args.off c.args.from.now _ any_disk c.run_write_page.new.parts c.run_write_page.result _ any_disk can
-    (seen_alone g.St.Storage.step g.St.Storage.view g.met.St.Storage.meets (write_page c.args.parts.now c.args.page c.args.off c.args.from.now) c.args.st.now (c.run_write_page.new.parts, c.run_write_page.result) c.run_write_page.new.st c.run_write_page.ensures.row)
+    let call = c.run_write_page in
+    let program = write_page c.args.parts.now c.args.page c.args.off c.args.from.now in
+    let seen = seen_alone g.St.Storage.step g.St.Storage.view g.met.St.Storage.meets program c.args.st.now (call.new.parts, call.result) call.new.st call.ensures.row in
+    write-says c.args.parts.now c.args.page c.args.off c.args.from.now _ any_disk call.new.parts call.result _ any_disk can seen

@@ -1,6 +1,6 @@
 use Rattle.std.proofs.lemmas.List.Elements.{All-take}
 use Rattle.page_arena.specs.FrameView.{IsOf, first_frames}
-use Rattle.page_arena.specs.FrameLaws.{first_frames_are_of}
+use Rattle.page_arena.specs.Laws.FrameLaws.{first_frames_are_of}
 use Rattle.page_arena.proofs.tests.close_with.Goals as goal
 
 pub close-requires : goal.close-requires

@@ -3,7 +3,7 @@ use Rattle.essa_state.specs.declared.orders.Order.TheVariants.{SetStable}
 use Rattle.essa_state.specs.PageBody.{Body}
 use Rattle.state_words.specs.SeatView.{Hold}
 use Rattle.state_words.specs.Accesses.{Leads}
-use Rattle.state_words.specs.AccessLaws.{ForSome-held, Leads-same, Leads-ordered}
+use Rattle.state_words.specs.Laws.AccessLaws.{ForSome-held, Leads-same, Leads-ordered}
 use Rattle.state_words.proofs.tests.leave_stable.Goals as goal
 
 pub release-requires-clause-leads : goal.release-requires-clause-leads

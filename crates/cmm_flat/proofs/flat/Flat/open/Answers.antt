@@ -1,4 +1,4 @@
-use Rattle.cmm_flat.specs.SoundLaws.{sound_without}
+use Rattle.cmm_flat.specs.Laws.SoundLaws.{sound_without}
 use Rattle.cmm_flat.proofs.flat.Flat.open.Goals as goal
 
 pub invariant_of-result : goal.invariant_of-result

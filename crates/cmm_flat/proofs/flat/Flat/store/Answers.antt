@@ -2,7 +2,7 @@ use Rattle.std.proofs.Common.{◌≡◌, sym, ap, ◌∙◌, subst, Some, length
 use Rattle.std.specs.FinMap as finite
 use Rattle.cmm_flat.specs.Mapping.{HasRoom, written}
 use Rattle.cmm_flat.specs.State.{FlatState, Shows, place_of, mapping_at}
-use Rattle.cmm_flat.specs.SoundLaws.{sound_inserted, shows_written, has_room}
+use Rattle.cmm_flat.specs.Laws.SoundLaws.{sound_inserted, shows_written, has_room}
 use Rattle.cmm_flat.proofs.flat.Flat.store.Goals as goal
 
 pub invariant_of-self-in-Anonymous : goal.invariant_of-self-in-Anonymous
@@ -13,4 +13,5 @@ invariant_of-self-in-Anonymous c =
     let shows : Shows files mapping = subst (λ (s : FlatState). Shows s.files mapping) (sym c.self.view_is) c.in-Some.ensures.shows in
     let new = c.as_slice-bytes.result.now in
     let room : HasRoom mapping.shown c.args.off (length new) = has_room files mapping.shown (length mapping.pins) c.args.off (length new) shows.1 (omega (arith, c.if-off-bytes.false)) in
-    sound_inserted files c.self.inside.mappings c.write-in-Anonymous.new.self c.args.process c.args.map (written mapping c.args.off new) (c.write-in-Anonymous.ensures mapping at) (shows_written files mapping c.args.off new room shows) c.self.invariant
+    sound_inserted files c.self.inside.mappings c.write-in-Anonymous.new.self c.args.process c.args.map (written mapping c.args.off new) (c.write-in-Anonymous.ensures mapping at)
+    (shows_written files mapping c.args.off new room shows) c.self.invariant

@@ -1,4 +1,4 @@
-use Rattle.cmm_flat.specs.SoundLaws.{sound_removed}
+use Rattle.cmm_flat.specs.Laws.SoundLaws.{sound_removed}
 use Rattle.cmm_flat.proofs.flat.Flat.unmap.Goals as goal
 
 pub invariant_of-self : goal.invariant_of-self

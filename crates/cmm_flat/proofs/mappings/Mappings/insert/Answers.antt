@@ -1,7 +1,7 @@
 use Rattle.std.proofs.Common.{sym, ap, ◌∙◌, ◌+◌}
 use Rattle.std.specs.FinMap as finite
 use Rattle.cmm_flat.specs.Mapping.{place_cmp}
-use Rattle.cmm_flat.specs.PlaceLaws.{one_more}
+use Rattle.cmm_flat.specs.Laws.PlaceLaws.{one_more}
 use Rattle.cmm_flat.proofs.Places.{one_given}
 use Rattle.cmm_flat.proofs.mappings.Mappings.insert.Goals as goal
 

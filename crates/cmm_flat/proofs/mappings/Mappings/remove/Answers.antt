@@ -1,7 +1,7 @@
 use Rattle.std.proofs.Common.{sym, ap, ◌∙◌, ◌-◌, is_some, ◌≡◌, true, ◌≤◌, arith}
 use Rattle.std.specs.FinMap as finite
 use Rattle.cmm_flat.specs.Mapping.{place_cmp}
-use Rattle.cmm_flat.specs.PlaceLaws.{one_less, some_live}
+use Rattle.cmm_flat.specs.Laws.PlaceLaws.{one_less, some_live}
 use Rattle.cmm_flat.proofs.Places.{one_taken, key_found}
 use Rattle.cmm_flat.proofs.mappings.Mappings.remove.Goals as goal
 

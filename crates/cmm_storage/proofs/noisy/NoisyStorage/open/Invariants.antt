@@ -1,5 +1,5 @@
 use Rattle.std.proofs.Common.{◌≡◌, replicate}
-use Rattle.cmm_storage.specs.NoisyState.{opening_value}
+use Rattle.essa_state.specs.PageValue.{opening_value}
 use Rattle.cmm_storage.proofs.noisy.NoisyStorage.open.Given as goal
 
 abbrev pub invariant-loop : goal.invariant-loop

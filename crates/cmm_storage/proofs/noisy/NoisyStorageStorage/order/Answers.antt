@@ -1,7 +1,7 @@
 use Rattle.std.proofs.Common.{◌≡◌, ◌<◌, Some, length, rules, ap, ◌∙◌, get_or}
 use Rattle.std.proofs.lemmas.List.{get_or_default}
 use Rattle.cmm_storage.specs.StorageView.{has_bytes}
-use Rattle.cmm_storage.specs.NoisyState.{opening_value}
+use Rattle.essa_state.specs.PageValue.{opening_value}
 use Rattle.cmm_storage.proofs.NoisyLemmas.{set_sound}
 use Rattle.cmm_storage.proofs.noisy.NoisyStorageStorage.order.Goals as goal
 

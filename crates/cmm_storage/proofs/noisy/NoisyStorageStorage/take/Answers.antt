@@ -1,8 +1,8 @@
 use Rattle.std.proofs.Common.{◌<◌, length, sym, ◌∙◌, subst}
 use Rattle.std.proofs.lemmas.List.{get_or_default}
-use Rattle.essa_state.specs.PageValue.{IsValue}
-use Rattle.essa_state.specs.PageValueLaws.{MayBecome-is_value}
-use Rattle.cmm_storage.specs.NoisyState.{NoisyState, opening_value}
+use Rattle.essa_state.specs.PageValue.{IsValue, opening_value}
+use Rattle.essa_state.specs.Laws.PageValueLaws.{MayBecome-is_value}
+use Rattle.cmm_storage.specs.NoisyState.{NoisyState}
 use Rattle.cmm_storage.proofs.NoisyLemmas.{taken_sound}
 use Rattle.cmm_storage.proofs.noisy.NoisyStorageStorage.take.Goals as goal
 use Rattle.cmm_storage.proofs.noisy.NoisyStorageStorage.take.Goals.{then-eq-2, else-eq-2}

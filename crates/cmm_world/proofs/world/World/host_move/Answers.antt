@@ -19,10 +19,10 @@ apply-requires-clause-page c =
     let range = subst (λ (v : WorldView). EventInRange (plans_of v.state) (Host c.args.guest c.args.page c.args.action)) (sym c.self.view_is) c.requires in
     page_there _ c.args.guest c.args.page c.self.invariant.0 range
 
-abbrev inside : (c : goal.After-move_answer) → WorldState
+abbrev inside : (c : goal.After-applied_answer) → WorldState
 inside c = record { guests = c.self.inside.guests.items; disks = c.self.inside.disks.items; host = c.self.inside.host }
 
-moves : (c : goal.After-move_answer) → MovesKeep (inside c).host c.apply.new.self
+moves : (c : goal.After-applied_answer) → MovesKeep (inside c).host c.apply.new.self
 moves c = record {
   starts = ap (λ (h : HostState). h.starts) c.apply.ensures.host;
   pagers = ap (λ (h : HostState). h.pagers) c.apply.ensures.host;
@@ -33,24 +33,24 @@ moves c = record {
 pub invariant_of-self : goal.invariant_of-self
 invariant_of-self c = (kept_moves (inside c) c.apply.new.self c.self.invariant.0 (moves c), c.self.invariant.1)
 
-abbrev event : (c : goal.After-move_answer) → Event
+abbrev event : (c : goal.After-applied_answer) → Event
 event c = Host c.args.guest c.args.page c.args.action
 
-abbrev answer : (c : goal.After-move_answer) → Answer
-answer c = c.move_answer.result
+abbrev answer : (c : goal.After-applied_answer) → Answer
+answer c = c.applied_answer.result
 
 -- the world after it
-abbrev made : (c : goal.After-move_answer) → WorldState
+abbrev made : (c : goal.After-applied_answer) → WorldState
 made c = record (inside c) { host = c.apply.new.self }
 
-step : (c : goal.After-move_answer) → ◌≡◌ {A = Answer × WorldState} (world_step (inside c) (event c)) (answer c, made c)
+step : (c : goal.After-applied_answer) → ◌≡◌ {A = Answer × WorldState} (world_step (inside c) (event c)) (answer c, made c)
 unfolding world_step
-step c = rw (c.move_answer.ensures, c.apply.ensures.answer, c.apply.ensures.host) refl
+step c = rw (c.applied_answer.ensures, c.apply.ensures.answer, c.apply.ensures.host) refl
 
 pub returns : goal.returns
 returns c =
     let answers = c.self.inside.answers.items in
     let events = c.self.inside.events in
-    let one : step_answers (answer c) ≡ answer c ∷ [] = subst (λ a. step_answers a ≡ a ∷ []) (sym c.move_answer.ensures) (move_answered c.apply.result) in
+    let one : step_answers (answer c) ≡ answer c ∷ [] = subst (λ a. step_answers a ≡ a ∷ []) (sym c.applied_answer.ensures) (move_answered c.apply.result) in
     subst (λ (v : WorldView). PlaysEvent v (event c) (answer c) (seen_as (made c) answers events)) c.self.view_is
     (plays_moves (inside c) answers events (event c) (answer c) c.apply.new.self (step c) refl one c.self.invariant.0 (moves c))

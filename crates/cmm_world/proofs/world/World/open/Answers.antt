@@ -5,19 +5,30 @@ use Rattle.cmm_world.specs.WorldFit.{IsWorld}
 use Rattle.cmm_world.proofs.OpeningWorld.{opening_fits, opening_parts}
 use Rattle.cmm_world.proofs.world.World.open.Goals as goal
 
-state : (c : goal.In_ok-answers) →
-    ◌≡◌ {A = WorldState} (record { guests = c.in_ok-guests.guests.items; disks = c.in_ok-disks.disks.items; host = c.in_ok-host.host }) (opening_world c.args.plan.now)
+abbrev opened : goal.In_ok-answers → WorldState
+opened c = record { guests = c.in_ok-guests.guests.items; disks = c.in_ok-disks.disks.items; host = c.in_ok-host.host }
+
+state : (c : goal.In_ok-answers) → opened c ≡ opening_world c.args.plan.now
 state c =
     opening_parts c.args.plan.now c.in_ok-guests.guests.items c.in_ok-disks.disks.items c.in_ok-host.host
     (c.in_ok-guests.ensures ∙ ap (map opening_guest) c.as_slice.ensures)
     (c.in_ok-disks.ensures ∙ ap (map opening_disk) c.as_slice-2.ensures)
     c.in_ok-host.ensures
 
-pub invariant_of-result : goal.invariant_of-result
-invariant_of-result c = (subst IsWorld (sym (state c)) (opening_fits c.args.plan.now c.requires.range c.requires.built), c.in_ok-answers.ensures.capacity)
+world : (c : goal.In_ok-answers) → IsWorld (opened c)
+world c = subst IsWorld (sym (state c)) (opening_fits c.args.plan.now c.requires.range c.requires.built)
 
-pub returns : goal.returns
-returns c =
+pub invariant_of-result : goal.invariant_of-result
+invariant_of-result c = (world c, c.in_ok-answers.ensures.capacity)
+
+pub returns-clause-opening : goal.returns-clause-opening
+returns-clause-opening c =
     let events : c.len-events.result ≡ length c.args.plan.now.schedule = c.len-events.ensures in
     let answers : c.in_ok-answers.answers.items ≡ [] = c.in_ok-answers.ensures.items in
     λ i. record { state = state c i; answers = answers i; events = events i }
+
+pub returns-clause-fit : goal.returns-clause-fit
+returns-clause-fit c = (world c).fit
+
+pub returns-clause-failures : goal.returns-clause-failures
+returns-clause-failures c = (world c).failures

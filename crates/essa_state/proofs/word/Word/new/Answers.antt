@@ -1,6 +1,6 @@
 use Rattle.std.proofs.Common.{◌≡◌, ◌+◌, ◌*◌, arith}
 use Rattle.essa_state.specs.StateWord.{number_of}
-use Rattle.essa_state.specs.LayoutLaws.{fields_at-number}
+use Rattle.essa_state.specs.Laws.LayoutLaws.{fields_at-number}
 use Rattle.essa_state.proofs.word.Word.new.Goals as goal
 
 pub returns : goal.returns

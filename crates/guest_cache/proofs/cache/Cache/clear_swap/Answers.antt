@@ -11,7 +11,8 @@ pub invariant_of-self : goal.invariant_of-self
 invariant_of-self c =
     let swap = c.self.inside.swap.items in
     let below : c.args.slot < c.self.inside.slots = subst (λ (cache : CacheView). c.args.slot < cache.slots) (sym c.self.view_is) c.requires.slot in
-    let its : position (holds_page c.args.slot c.args.index) swap ≡ Some c.args.number = subst (λ (cache : CacheView). swap_slot cache (Anon c.args.slot c.args.index) ≡ Some c.args.number) (sym c.self.view_is) c.requires.its in
+    let its : position (holds_page c.args.slot c.args.index) swap ≡ Some c.args.number =
+    subst (λ (cache : CacheView). swap_slot cache (Anon c.args.slot c.args.index) ≡ Some c.args.number) (sym c.self.view_is) c.requires.its in
     let is = position-Some (holds_page c.args.slot c.args.index) swap c.args.number None its in
     let size = length-set swap c.args.number None in
     let sound = c.self.invariant in (
@@ -29,7 +30,8 @@ pub invariant_of-self-else-number-self : goal.invariant_of-self-else-number-self
 invariant_of-self-else-number-self c =
     let swap = c.self.inside.swap.items in
     let below : c.args.slot < c.self.inside.slots = subst (λ (cache : CacheView). c.args.slot < cache.slots) (sym c.self.view_is) c.requires.slot in
-    let its : position (holds_page c.args.slot c.args.index) swap ≡ Some c.args.number = subst (λ (cache : CacheView). swap_slot cache (Anon c.args.slot c.args.index) ≡ Some c.args.number) (sym c.self.view_is) c.requires.its in
+    let its : position (holds_page c.args.slot c.args.index) swap ≡ Some c.args.number =
+    subst (λ (cache : CacheView). swap_slot cache (Anon c.args.slot c.args.index) ≡ Some c.args.number) (sym c.self.view_is) c.requires.its in
     let size = length-set swap c.args.number None in
     let sound = c.self.invariant in (
       sound.0,

@@ -10,14 +10,16 @@ use Rattle.guest_cache.proofs.cache.Cache.open.Goals as goal
 pub loop-pages-preserved : goal.loop-pages-preserved
 loop-pages-preserved c =
     let number_is : 0 + c.loop-pages.pages-index ≡ c.loop-pages.pages-index = zero-add c.loop-pages.pages-index in (
-      rw (c.in_ok-push.ensures.items, c.loop-pages.invariant.0, c.loop-pages.invariant.1, map-range_with_len_more (pages_before c.args.files.now) 0 c.loop-pages.pages-index c.loop-pages.pages-index number_is) refl,
+      let more = map-range_with_len_more (pages_before c.args.files.now) 0 c.loop-pages.pages-index c.loop-pages.pages-index number_is in
+          rw (c.in_ok-push.ensures.items, c.loop-pages.invariant.0, c.loop-pages.invariant.1, more) refl,
       omega (arith, c.loop-pages.invariant.1, sum_by_more (λ x. x) c.args.files.now c.loop-pages.pages-index 0 c.loop-pages-test.true),
     )
 
 pub invariant_of-result : goal.invariant_of-result
 invariant_of-result c =
     let end : c.loop-pages.pages-index ≡ length c.args.files.now = omega (arith, c.loop-pages.auto.pages-index-end, c.loop-pages-test.false) in
-    let all : take c.loop-pages.pages-index c.args.files.now ≡ c.in_ok-from_slice.field-0.items = take_all c.loop-pages.pages-index c.args.files.now (omega (arith, end)) ∙ sym c.in_ok-from_slice.ensures.items in
+    let all : take c.loop-pages.pages-index c.args.files.now ≡ c.in_ok-from_slice.field-0.items =
+    take_all c.loop-pages.pages-index c.args.files.now (omega (arith, end)) ∙ sym c.in_ok-from_slice.ensures.items in
     let pages : c.loop-pages.file_pages ≡ sum c.in_ok-from_slice.field-0.items = c.loop-pages.invariant.1 ∙ ap sum all in
     let swap : length c.in_ok-no_tags.field-0.items ≡ c.args.swap = ap length c.in_ok-no_tags.ensures ∙ length-replicate c.args.swap None in (
       search rules,

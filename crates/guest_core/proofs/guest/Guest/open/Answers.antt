@@ -2,7 +2,7 @@ use Rattle.std.proofs.Common.{map, replicate, sym, ap, subst, ◌∙◌}
 use Rattle.cmm_types.specs.declared.plan.TheConstants.{MAX_MAPPING_SLOTS}
 use Rattle.cmm_types.specs.declared.plan.FilePlan.{FilePlan}
 use Rattle.guest_cache.specs.CacheView.{opening_cache}
-use Rattle.guest_rules.specs.GuestState.{at_start}
+use Rattle.guest_rules.specs.GuestState.{first_processor}
 use Rattle.guest_rules.specs.Fit.{Fit}
 use Rattle.guest_rules.proofs.Opening.Opening.{Fit-opening}
 use Rattle.guest_core.proofs.Opened.{all_at_start, opened}
@@ -21,10 +21,11 @@ returns-clause-opening c =
     c.in_ok-copy_plan.ensures
     c.in_ok-open.ensures
     (c.in_ok-open-2.ensures
-    ∙ ap (λ files. opening_cache files c.args.plan.now.swap MAX_MAPPING_SLOTS) (c.deref.ensures.value ∙ c.in_ok-files.ensures ∙ ap (λ files. map (λ (file : FilePlan). file.pages) files) c.as_slice.ensures))
+    ∙ ap (λ files. opening_cache files c.args.plan.now.swap MAX_MAPPING_SLOTS)
+    (c.deref.ensures.value ∙ c.in_ok-files.ensures ∙ ap (λ files. map (λ (file : FilePlan). file.pages) files) c.as_slice.ensures))
     c.in_ok-open-3.ensures
     c.in_ok-with_capacity.ensures.items
-    (c.in_ok-vec.ensures.items_if_clones_equal (λ y h. h) ∙ ap (λ n. replicate n at_start) c.len.ensures ∙ all_at_start c.args.plan.now.cpus)
+    (c.in_ok-vec.ensures.items_if_clones_equal (λ y h. h) ∙ ap (λ n. replicate n first_processor) c.len.ensures ∙ all_at_start c.args.plan.now.cpus)
 
 pub returns-clause-fit : goal.returns-clause-fit
 returns-clause-fit c v d fresh = subst (λ guest. Fit guest v d) (sym (returns-clause-opening c)) (Fit-opening c.args.plan.now v d c.requires.range c.requires.built fresh)

@@ -8,5 +8,4 @@ start_entry-requires-clause-slot g c =
     found-below c.args.self.now.parts.maps (process_of c.args.self.now.plan c.args.cpu) c.args.map c.in-Some.slot (sym c.slot_of.ensures ∙ c.in-Some.is)
 
 pub start_entry-requires-clause-reaches : goal.start_entry-requires-clause-reaches
-start_entry-requires-clause-reaches g c =
-    c.requires.reaches c.in-Some.slot (sym c.slot_of.ensures ∙ c.in-Some.is)
+start_entry-requires-clause-reaches g c = c.requires.reaches c.in-Some.slot (sym c.slot_of.ensures ∙ c.in-Some.is)

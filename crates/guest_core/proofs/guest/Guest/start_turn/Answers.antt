@@ -14,4 +14,4 @@ refusal_on-requires-clause-range g c =
 
 pub start_accepted-requires-clause-starts : goal.start_accepted-requires-clause-starts
 start_accepted-requires-clause-starts g c =
-    record { has = record { below = c.requires.cpu; command = c.requires.command }; start = c.requires.start; accepted = sym c.refusal_on.ensures ∙ c.in-None.is }
+    record { has = record { below = c.requires.enters.there; command = c.requires.command }; start = c.requires.start; accepted = sym c.refusal_on.ensures ∙ c.in-None.is }

@@ -11,7 +11,9 @@ set_link-requires c =
     (subst (λ o. IfSome o (λ at. at < length c.self.inside.before.items)) (sym (get_or_read c.self.inside.first.items c.args.pte.page c.index-after.result.now page c.index-after.ensures None))
     (first_within c.self.inside.entries.items c.self.inside.first.items c.self.inside.next.items c.self.inside.before.items c.args.pte.page c.self.invariant))
 
-before_is : (c : goal.After-self-5-1) → take c.self.inside.before.len (c.set_link.new.links ++ drop (length c.set_link.new.links) c.self.inside.before.items) ≡ set_at c.self.inside.before.items c.index-after.result.now (Some c.args.place)
+before_is : (c : goal.After-self-5-1)
+    → take c.self.inside.before.len (c.set_link.new.links ++ drop (length c.set_link.new.links) c.self.inside.before.items)
+    ≡ set_at c.self.inside.before.items c.index-after.result.now (Some c.args.place)
 before_is c =
     whole_changed c.self.inside.before.len c.set_link.new.links c.self.inside.before.items (omega (arith, c.set_link.auto.links, c.deref_mut.ensures.len))
     ∙ c.set_link.ensures
@@ -22,9 +24,11 @@ invariant_of-self c =
     let within : c.args.place < length c.self.inside.entries.items = subst (λ (view : EntriesView). c.args.place < length view.entries) (sym c.self.view_is) c.requires.place in
     let empty : get_or c.self.inside.entries.items c.args.place None ≡ None = subst (λ (view : EntriesView). get_or view.entries c.args.place None ≡ None) (sym c.self.view_is) c.requires.empty in
     let page : c.args.pte.page < length c.self.inside.first.items = subst (λ (view : EntriesView). c.args.pte.page < view.pages) (sym c.self.view_is) c.requires.page in
-    let after : get_or c.self.inside.first.items c.args.pte.page None ≡ c.index-after.result.now = sym (get_or_read c.self.inside.first.items c.args.pte.page c.index-after.result.now page c.index-after.ensures None) in
+    let after : get_or c.self.inside.first.items c.args.pte.page None ≡ c.index-after.result.now =
+    sym (get_or_read c.self.inside.first.items c.args.pte.page c.index-after.result.now page c.index-after.ensures None) in
     same_chains refl refl (ap (λ before. set before c.args.place None) (before_is c))
-    (HasChains-made c.self.inside.entries.items c.self.inside.first.items c.self.inside.next.items c.self.inside.before.items c.args.place c.args.pte c.index-after.result.now c.self.invariant within empty page after)
+    (HasChains-made c.self.inside.entries.items c.self.inside.first.items c.self.inside.next.items c.self.inside.before.items c.args.place c.args.pte c.index-after.result.now c.self.invariant within
+    empty page after)
 
 pub returns : goal.returns
 unfolding with_pte

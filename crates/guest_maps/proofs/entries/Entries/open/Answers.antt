@@ -9,4 +9,5 @@ invariant_of-result c =
     let first : c.in_ok-vec-2.field-0.items ≡ replicate c.args.pages None = search rules in
     let next : c.in_ok-vec-3.field-0.items ≡ replicate c.args.places None = search rules in
     let before : c.in_ok-vec-4.field-0.items ≡ replicate c.args.places None = search rules in
-    subst (λ xs. HasChains xs c.in_ok-vec-2.field-0.items c.in_ok-vec-3.field-0.items c.in_ok-vec-4.field-0.items) (sym entries) (same_chains first next before (HasChains-opening c.args.pages c.args.places))
+    subst (λ xs. HasChains xs c.in_ok-vec-2.field-0.items c.in_ok-vec-3.field-0.items c.in_ok-vec-4.field-0.items) (sym entries)
+    (same_chains first next before (HasChains-opening c.args.pages c.args.places))

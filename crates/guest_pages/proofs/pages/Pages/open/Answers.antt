@@ -25,7 +25,8 @@ all_infos c = omega (arith, c.in_ok-infos.ensures.len)
 pub invariant_of-result : goal.invariant_of-result
 invariant_of-result c = (
   subst AreDistinct (sym (in_order c)) (distinct_range 0 c.args.count),
-  subst (λ free. All (λ page. page < length c.in_ok-infos.infos.items) free) (sym (in_order c)) (subst (λ n. All (λ page. page < n) (range_with_len 0 c.args.count)) (sym (all_infos c)) (below_range c.args.count)),
+  subst (λ free. All (λ page. page < length c.in_ok-infos.infos.items) free) (sym (in_order c))
+      (subst (λ n. All (λ page. page < n) (range_with_len 0 c.args.count)) (sym (all_infos c)) (below_range c.args.count)),
   omega (arith, all_infos c, c.reverse.ensures.capacity, c.loop-page.invariant.1),
   omega (arith, all_infos c, c.requires.most),
 )

@@ -12,4 +12,5 @@ returns-in-Some-clause-first c =
 pub returns-in-None-clause-first : goal.returns-in-None-clause-first
 returns-in-None-clause-first c =
     let behind : NoneMarked c.args.self.now c.args.hand (length c.args.self.now) = subst (λ n. NoneMarked c.args.self.now c.args.hand n) c.len-count.ensures c.in-None.ensures.none in
-    first_marked-next c.args.self.now c.args.hand c.next-in-None.result c.requires behind c.next-in-None.ensures.none c.next-in-None.ensures.within c.next-in-None.ensures.marked c.next-in-None.ensures.first
+    first_marked-next c.args.self.now c.args.hand c.next-in-None.result c.requires behind c.next-in-None.ensures.none c.next-in-None.ensures.within c.next-in-None.ensures.marked
+    c.next-in-None.ensures.first

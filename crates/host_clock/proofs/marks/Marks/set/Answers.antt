@@ -43,7 +43,8 @@ invariant_of-self c =
     sym (get_or_default c.self.inside.marks.items c.args.place c.index.result.now false below) ∙ sym c.index.ensures in
     let changed : is_marked c.self.inside.marks.items c.args.place ≡ c.args.mark → ⊥ = λ same. other-mark c.index.result.now c.args.mark c.if-index-mark.false (sym at ∙ same) in
     let blocks = counts_set 64 c.self.inside.marks.items c.self.inside.blocks.items c.args.place (c.args.place / 64) c.args.mark c.self.invariant.0 below (omega arith) (omega arith) block changed in
-    let groups = counts_set 4096 c.self.inside.marks.items c.self.inside.groups.items c.args.place (c.args.place / 4096) c.args.mark c.self.invariant.1 below (omega arith) (omega arith) group changed in (
+    let groups = counts_set 4096 c.self.inside.marks.items c.self.inside.groups.items c.args.place (c.args.place / 4096) c.args.mark c.self.invariant.1 below (omega arith)
+    (omega arith) group changed in (
       subst (λ n. AreCounts 64 (slice_set c.self.inside.marks.items c.args.place c.args.mark) (slice_set c.self.inside.blocks.items (c.args.place / 64) n))
           (ap (λ n. recounted n c.args.mark) (sym in_block) ∙ sym c.recounted.ensures) blocks,
       subst (λ n. AreCounts 4096 (slice_set c.self.inside.marks.items c.args.place c.args.mark) (slice_set c.self.inside.groups.items (c.args.place / 4096) n))

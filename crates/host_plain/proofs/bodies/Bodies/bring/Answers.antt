@@ -13,9 +13,11 @@ use Rattle.host_plain.proofs.bodies.Bodies.bring.Goals as goal
 pub returns-in-Ok-clause-body : goal.returns-in-Ok-clause-body
 returns-in-Ok-clause-body c =
     let had : c.index_mut-page.result.now.frame ≡ None =
-    absent-frame c.self.inside.pages.items c.self.inside.free.items c.self.inside.frames c.args.place c.index_mut-page.result.now c.args.self.now c.self.view_is c.requires.place c.index_mut-page.ensures.value c.requires.absent in
+    absent-frame c.self.inside.pages.items c.self.inside.free.items c.self.inside.frames c.args.place c.index_mut-page.result.now c.args.self.now c.self.view_is c.requires.place
+    c.index_mut-page.ensures.value c.requires.absent in
     taken c.self.inside.pages.items c.self.inside.free.items c.self.inside.frames c.args.place c.index_mut-page.result.now c.bring.new.self (moved_body Bring) c.args.self.now c.self.view_is
-    c.requires.place c.index_mut-page.ensures.value (ap body_of c.in-Ok.ensures.parts) c.pop.new.self.items c.unwrap-frame.result c.pop.result c.index_mut-page.result.now.block had c.pop.ensures.items c.unwrap-frame.ensures
+    c.requires.place c.index_mut-page.ensures.value (ap body_of c.in-Ok.ensures.parts)
+    c.pop.new.self.items c.unwrap-frame.result c.pop.result c.index_mut-page.result.now.block had c.pop.ensures.items c.unwrap-frame.ensures
     (ap (λ (p : PageParts). p.frame) c.in-Ok.ensures.parts)
 
 pub invariant_of-self : goal.invariant_of-self
@@ -23,7 +25,8 @@ invariant_of-self c =
     let below : c.args.place < length c.self.inside.pages.items =
     inside-of c.self.inside.pages.items c.self.inside.free.items c.self.inside.frames c.args.place c.args.self.now c.self.view_is c.requires.place in
     let had : c.index_mut-page.result.now.frame ≡ None =
-    absent-frame c.self.inside.pages.items c.self.inside.free.items c.self.inside.frames c.args.place c.index_mut-page.result.now c.args.self.now c.self.view_is c.requires.place c.index_mut-page.ensures.value c.requires.absent in
+    absent-frame c.self.inside.pages.items c.self.inside.free.items c.self.inside.frames c.args.place c.index_mut-page.result.now c.args.self.now c.self.view_is c.requires.place
+    c.index_mut-page.ensures.value c.requires.absent in
     let none : frames_in c.index_mut-page.result.now ≡ 0 = ap (λ (o : Option FrameView). if is_some o then 1 else 0) had in
     let one : frames_in c.bring.new.self ≡ 1 = ap frames_in c.in-Ok.ensures.parts in
     let fewer : vec_len c.pop.new.self + 1 ≡ vec_len c.self.inside.free = search rules in
@@ -41,7 +44,14 @@ invariant_of-self-in-Err c =
     let fewer : vec_len c.pop.new.self + 1 ≡ vec_len c.self.inside.free = search rules in
     let same : frames_in c.bring.new.self ≡ frames_in c.index_mut-page.result.now = ap frames_in c.in-Err.ensures.same in
     let balance : vec_len c.give_back.new.free + framed_of (slice_set c.self.inside.pages.items c.args.place c.bring.new.self) ≡ c.self.inside.frames =
-    omega (arith, c.self.invariant.0, framed-set c.self.inside.pages.items c.args.place c.index_mut-page.result.now c.bring.new.self below c.index_mut-page.ensures.value, same, fewer, c.give_back.ensures.len) in
+    omega (
+      arith,
+      c.self.invariant.0,
+      framed-set c.self.inside.pages.items c.args.place c.index_mut-page.result.now c.bring.new.self below c.index_mut-page.ensures.value,
+      same,
+      fewer,
+      c.give_back.ensures.len,
+    ) in
     let room : c.self.inside.frames ≤ vec_capacity c.give_back.new.free = search rules in
     let last = last-of c.self.inside.region c.self.inside.free.items c.pop.new.self.items c.unwrap-frame.result c.pop.result c.self.invariant.3.1 c.pop.ensures.items c.unwrap-frame.ensures in
     let was : IsFramedOf c.self.inside.region c.index_mut-page.result.now =

@@ -1,10 +1,10 @@
 use Rattle.std.proofs.Common.{◌≡◌, ◌+◌, ◌<◌, ◌≤◌, length, None, ap, sym, subst, arith, rules, slice_set, vec_len, vec_capacity}
 use Rattle.std.specs.Prelude.{Option, is_some, if◌then◌else◌}
 use Rattle.std.proofs.lemmas.List.Elements.{All-set}
-use Rattle.cmm_storage.specs.StorageView.{zeros}
+use Rattle.cmm_types.specs.Bytes.{zero_page}
 use Rattle.essa_state.specs.PageBody.{Body}
 use Rattle.page_arena.specs.FrameView.{FrameView}
-use Rattle.host_plain.specs.MemoryState.{with_bytes}
+use Rattle.host_plain.specs.MemoryState.{body_with_bytes}
 use Rattle.host_plain.specs.Bodies.{PageParts, IsFramedOf, body_of, frames_in, framed_of}
 use Rattle.host_plain.proofs.Framed.{inside-of, taken, absent-frame, framed-set}
 use Rattle.host_plain.proofs.Closing.{last-of}
@@ -13,9 +13,11 @@ use Rattle.host_plain.proofs.bodies.Bodies.fill.Goals as goal
 pub returns : goal.returns
 returns c =
     let had : c.index_mut-page.result.now.frame ≡ None =
-    absent-frame c.self.inside.pages.items c.self.inside.free.items c.self.inside.frames c.args.place c.index_mut-page.result.now c.args.self.now c.self.view_is c.requires.place c.index_mut-page.ensures.value c.requires.absent in
-    taken c.self.inside.pages.items c.self.inside.free.items c.self.inside.frames c.args.place c.index_mut-page.result.now c.fill.new.self (λ (b : Body). with_bytes b zeros) c.args.self.now c.self.view_is
-    c.requires.place c.index_mut-page.ensures.value (ap body_of c.fill.ensures) c.pop.new.self.items c.unwrap-frame.result c.pop.result zeros had c.pop.ensures.items c.unwrap-frame.ensures
+    absent-frame c.self.inside.pages.items c.self.inside.free.items c.self.inside.frames c.args.place c.index_mut-page.result.now c.args.self.now c.self.view_is c.requires.place
+    c.index_mut-page.ensures.value c.requires.absent in
+    taken c.self.inside.pages.items c.self.inside.free.items c.self.inside.frames c.args.place c.index_mut-page.result.now c.fill.new.self
+    (λ (b : Body). body_with_bytes b zero_page) c.args.self.now c.self.view_is
+    c.requires.place c.index_mut-page.ensures.value (ap body_of c.fill.ensures) c.pop.new.self.items c.unwrap-frame.result c.pop.result zero_page had c.pop.ensures.items c.unwrap-frame.ensures
     (ap (λ (p : PageParts). p.frame) c.fill.ensures)
 
 pub invariant_of-self : goal.invariant_of-self
@@ -23,7 +25,8 @@ invariant_of-self c =
     let below : c.args.place < length c.self.inside.pages.items =
     inside-of c.self.inside.pages.items c.self.inside.free.items c.self.inside.frames c.args.place c.args.self.now c.self.view_is c.requires.place in
     let had : c.index_mut-page.result.now.frame ≡ None =
-    absent-frame c.self.inside.pages.items c.self.inside.free.items c.self.inside.frames c.args.place c.index_mut-page.result.now c.args.self.now c.self.view_is c.requires.place c.index_mut-page.ensures.value c.requires.absent in
+    absent-frame c.self.inside.pages.items c.self.inside.free.items c.self.inside.frames c.args.place c.index_mut-page.result.now c.args.self.now c.self.view_is c.requires.place
+    c.index_mut-page.ensures.value c.requires.absent in
     let none : frames_in c.index_mut-page.result.now ≡ 0 = ap (λ (o : Option FrameView). if is_some o then 1 else 0) had in
     let one : frames_in c.fill.new.self ≡ 1 = ap frames_in c.fill.ensures in
     let fewer : vec_len c.pop.new.self + 1 ≡ vec_len c.self.inside.free = search rules in

@@ -1,5 +1,5 @@
 use Rattle.std.proofs.Common.{◌≡◌, ◌≤◌, ◌∙◌, List, length, ap, arith, sym, subst, rules, vec_len, vec_capacity}
-use Rattle.page_arena.specs.FrameLaws.{first_frames_count, first_frames_are_of}
+use Rattle.page_arena.specs.Laws.FrameLaws.{first_frames_count, first_frames_are_of}
 use Rattle.std.specs.Prelude.{All}
 use Rattle.page_arena.specs.FrameView.{FrameView, IsOf}
 use Rattle.host_plain.specs.Bodies.{PageParts, IsFramedOf, framed_of}

@@ -12,4 +12,5 @@ returns-in-Ok-clause-body c =
     ap body_of c.in-Ok.ensures.parts
     ∙ ap (λ (o : Option FrameView). moved_body Preserve (body_of (record { frame = o; block = c.index_mut-page.result.now.block }))) (sym c.in-Ok.ensures.frame) in
     freed c.self.inside.pages.items c.self.inside.free.items c.self.inside.frames c.args.place c.index_mut-page.result.now c.preserve.new.self (moved_body Preserve) c.args.self.now c.self.view_is
-    c.requires.place c.index_mut-page.ensures.value made c.give_back.new.free.items c.in-Ok.frame c.in-Ok.ensures.frame (ap (λ (p : PageParts). p.frame) c.in-Ok.ensures.parts) c.give_back.ensures.frames
+    c.requires.place c.index_mut-page.ensures.value made c.give_back.new.free.items c.in-Ok.frame c.in-Ok.ensures.frame
+    (ap (λ (p : PageParts). p.frame) c.in-Ok.ensures.parts) c.give_back.ensures.frames

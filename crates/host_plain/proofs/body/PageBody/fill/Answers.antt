@@ -1,13 +1,13 @@
 use Rattle.std.proofs.Common.{◌≡◌, length, ap, sym, ◌∙◌, Some, replicate, ℕ, List}
 use Rattle.cmm_types.specs.declared.page.TheConstants.{PAGE}
-use Rattle.cmm_storage.specs.StorageView.{zeros}
+use Rattle.cmm_types.specs.Bytes.{zero_page}
 use Rattle.page_arena.specs.FrameView.{FrameView}
-use Rattle.page_arena.specs.FrameLaws.{with_whole_bytes}
+use Rattle.page_arena.specs.Laws.FrameLaws.{with_whole_bytes}
 use Rattle.host_plain.specs.Bodies.{PageParts}
 use Rattle.host_plain.proofs.body.PageBody.fill.Goals as goal
 
 pub returns : goal.returns
-unfolding zeros
+unfolding zero_page
 returns c =
     let whole : length c.args.frame.bytes ≡ PAGE = sym (ap (λ (b : List ℕ). length b) c.bytes_mut.ensures.bytes) ∙ c.bytes_mut.ensures.whole in
     let same : length c.fill.new.self ≡ length c.args.frame.bytes = c.fill.ensures.len ∙ ap (λ (b : List ℕ). length b) c.bytes_mut.ensures.bytes in

@@ -2,7 +2,7 @@ use Rattle.std.proofs.Common.{◌≡◌, ◌<◌, ◌+◌, ◌≤◌, length, ar
 use Rattle.std.proofs.lemmas.Grind.{common_steps}
 use Rattle.cmm_types.specs.declared.plan.TheConstants.{MAX_TOTAL_PAGES}
 use Rattle.host_plain.specs.HostMoves.{applied}
-use Rattle.host_plain.specs.HostState.{HostState, IsHost, start_of, move_of, after_move, ApplyTells, HostMayMake}
+use Rattle.host_plain.specs.HostState.{HostState, IsHost, first_place, move_of, after_move, ApplyTells, HostMayMake}
 use Rattle.host_plain.proofs.Places.{place-below}
 use Rattle.host_plain.specs.declared.moves.ApplyError.{ApplyError}
 use Rattle.host_plain.proofs.Moving.{moved-tells}
@@ -12,15 +12,16 @@ use Rattle.host_plain.proofs.host.Host.apply.Goals as goal
 pub overflow_add-place : goal.overflow_add-place
 overflow_add-place c =
     let is : IsHost c.args.self.now = subst (λ (h : HostState). IsHost h) c.self.view_is c.self.invariant in
-    let start : c.index.result.now ≡ start_of c.args.self.now c.args.guest = grind (arith, common_steps) in
+    let start : c.index.result.now ≡ first_place c.args.self.now c.args.guest = grind (arith, common_steps) in
     let most : length c.args.self.now.memory.words ≤ MAX_TOTAL_PAGES = is.memory.few in
     omega (arith, start, most, place-below c.args.self.now c.args.guest c.args.page is c.requires.guest c.requires.page)
 
 pub apply-requires : goal.apply-requires
 apply-requires c =
     let is : IsHost c.args.self.now = subst (λ (h : HostState). IsHost h) c.self.view_is c.self.invariant in
-    let start : c.index.result.now ≡ start_of c.args.self.now c.args.guest = grind (arith, common_steps) in
-    let inside : c.index.result.now + c.args.page < length c.args.self.now.memory.words = omega (arith, start, place-below c.args.self.now c.args.guest c.args.page is c.requires.guest c.requires.page) in
+    let start : c.index.result.now ≡ first_place c.args.self.now c.args.guest = grind (arith, common_steps) in
+    let inside : c.index.result.now + c.args.page < length c.args.self.now.memory.words =
+    omega (arith, start, place-below c.args.self.now c.args.guest c.args.page is c.requires.guest c.requires.page) in
     record { place = subst (λ (h : HostState). c.index.result.now + c.args.page < length h.memory.words) (sym c.self.view_is) inside }
 
 pub returns-clause-host : goal.returns-clause-host
@@ -34,8 +35,8 @@ returns-clause-host c =
       held = c.self.inside.held;
       touched = c.self.inside.touched;
     } in
-    let start : c.index.result.now ≡ start_of h c.args.guest = grind (arith, common_steps) in
-    let there : c.index.result.now + c.args.page ≡ start_of h c.args.guest + c.args.page = omega (arith, start) in
+    let start : c.index.result.now ≡ first_place h c.args.guest = grind (arith, common_steps) in
+    let there : c.index.result.now + c.args.page ≡ first_place h c.args.guest + c.args.page = omega (arith, start) in
     move-step h c.args.guest c.args.page c.args.action (c.index.result.now + c.args.page) c.apply.new.self c.apply.new.pager there c.apply.ensures.memory c.apply.ensures.pager
     ∙ ap (λ (k : HostState). after_move k c.args.guest c.args.page c.args.action) c.self.view_is
 
@@ -60,8 +61,8 @@ returns-clause-answer c =
       held = c.self.inside.held;
       touched = c.self.inside.touched;
     } in
-    let start : c.index.result.now ≡ start_of h c.args.guest = grind (arith, common_steps) in
-    let there : c.index.result.now + c.args.page ≡ start_of h c.args.guest + c.args.page = omega (arith, start) in
+    let start : c.index.result.now ≡ first_place h c.args.guest = grind (arith, common_steps) in
+    let there : c.index.result.now + c.args.page ≡ first_place h c.args.guest + c.args.page = omega (arith, start) in
     c.apply.ensures.answer ∙ ap (λ p. (applied h.memory p c.args.action h.own).answer) there
     ∙ ap (λ (k : HostState). (move_of k c.args.guest c.args.page c.args.action).answer) c.self.view_is
 

@@ -4,8 +4,8 @@ use Rattle.cmm_storage.specs.StorageCall.{Fetch}
 use Rattle.host_plain.proofs.Others.{host_serves}
 use Rattle.host_plain.proofs.host.Host.fetch.Goals as goal
 
-pub place_of-requires : goal.place_of-requires
-place_of-requires c =
+pub list_place-requires : goal.list_place-requires
+list_place-requires c =
     let is : IsHost c.args.self.now = subst (λ (h : HostState). IsHost h) c.self.view_is c.self.invariant in
     is.below c.args.page c.requires.held
 

@@ -4,8 +4,8 @@ use Rattle.cmm_storage.specs.StorageCall.{Store}
 use Rattle.host_plain.proofs.Others.{host_serves}
 use Rattle.host_plain.proofs.host.Host.store.Goals as goal
 
-pub place_of-place-requires : goal.place_of-place-requires
-place_of-place-requires c =
+pub list_place-place-requires : goal.list_place-place-requires
+list_place-place-requires c =
     let is : IsHost c.args.self.now = subst (λ (h : HostState). IsHost h) c.self.view_is c.self.invariant in
     is.below c.args.page c.requires.held
 

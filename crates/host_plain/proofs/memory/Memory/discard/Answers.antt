@@ -10,7 +10,8 @@ use Rattle.host_plain.proofs.memory.Memory.discard.Goals as goal
 
 pub returns : goal.returns
 returns c =
-    moved c.self.inside.words c.self.inside.bodies c.self.inside.hand c.args.place c.args.self.now c.self.view_is c.self.invariant c.requires.place c.set.new.self c.discard.new.self discarded (moved_body Discard)
+    moved c.self.inside.words c.self.inside.bodies c.self.inside.hand c.args.place c.args.self.now c.self.view_is c.self.invariant c.requires.place c.set.new.self c.discard.new.self discarded
+    (moved_body Discard)
     (c.set.ensures ∙ ap (slice_set c.self.inside.words c.args.place) (discarded-word _ c.get-word.result c.moved.result c.get-word.ensures c.moved.ensures)) c.discard.ensures refl (omega arith)
 
 pub invariant_of-self : goal.invariant_of-self

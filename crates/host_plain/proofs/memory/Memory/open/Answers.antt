@@ -1,7 +1,8 @@
 use Rattle.std.proofs.Common.{◌≡◌, length, rules, ap, subst, replicate, List, map}
 use Rattle.std.specs.Prelude.{All}
 use Rattle.essa_state.specs.PageBody.{Body}
-use Rattle.host_plain.specs.MemoryState.{IsWholeBody, opening_word, frameless}
+use Rattle.host_plain.specs.MemoryState.{IsWholeBody, frameless}
+use Rattle.essa_state.specs.StateWord.{opening_word}
 use Rattle.host_plain.specs.Bodies.{BodiesView}
 use Rattle.host_plain.proofs.Opening.{opening-sound, opening-memory}
 use Rattle.host_plain.proofs.Seen.{sound-by}

@@ -12,7 +12,8 @@ use Rattle.host_plain.proofs.memory.Memory.preserve.Goals as goal
 
 pub returns-in-Ok-clause-memory : goal.returns-in-Ok-clause-memory
 returns-in-Ok-clause-memory c =
-    moved c.self.inside.words c.self.inside.bodies c.self.inside.hand c.args.place c.args.self.now c.self.view_is c.self.invariant c.requires.place c.set.new.self c.preserve.new.self preserved (moved_body Preserve)
+    moved c.self.inside.words c.self.inside.bodies c.self.inside.hand c.args.place c.args.self.now c.self.view_is c.self.invariant c.requires.place c.set.new.self c.preserve.new.self preserved
+    (moved_body Preserve)
     (c.set.ensures ∙ ap (slice_set c.self.inside.words c.args.place) (preserved-word _ c.get-word.result c.moved.result c.get-word.ensures c.moved.ensures)) c.in-Ok.ensures.body refl (omega arith)
     ∙ sym (after-good (fails_next c.args.pager.now) c.args.self.now (preserved_at c.args.self.now c.args.place) (sym c.in-Ok.ensures.failed))
 

@@ -1,7 +1,7 @@
 use Rattle.std.proofs.Common.{◌≡◌, ◌∙◌, ap, sym, map, replicate, List, false}
 use Rattle.essa_state.specs.declared.fields.Fields.{Fields}
 use Rattle.host_clock.specs.Victim.{is_candidate, is_takeable}
-use Rattle.host_plain.specs.MemoryState.{opening_word}
+use Rattle.essa_state.specs.StateWord.{opening_word}
 use Rattle.host_plain.proofs.Choosing.{map-replicate}
 use Rattle.host_plain.proofs.words.Words.open.Goals as goal
 

@@ -1,0 +1,9 @@
+-- Laws of the definitions beside this folder, which proofs here and in other crates cite. Nobody has to believe them.
+pub mod BytesLaws
+pub mod FlatLaws
+pub mod LegalLaws
+pub mod PlaceLaws
+pub mod RangeLaws
+pub mod SoundLaws
+pub mod StepLaws
+pub mod SumLaws

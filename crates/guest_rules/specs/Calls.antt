@@ -1,0 +1,91 @@
+-- What the calls on one page ask of the tables, the storage and the disk.
+use Rattle.std.specs.Prelude.{◌≡◌, ◌<◌, ◌≤◌, ◌+◌, ◌*◌, ℕ, Bool, true, false, length, Contains, Some, None, IfSome}
+use Rattle.cmm_types.specs.declared.page.TheConstants.{PAGE}
+use Rattle.cmm_types.specs.declared.page.Usage.TheVariants.{S}
+use Rattle.cmm_types.specs.declared.bytes.TheConstants.{MAX_BYTES}
+use Rattle.cmm_types.specs.declared.plan.TheConstants.{MAX_MAPPING_SLOTS}
+use Rattle.cmm_types.specs.declared.command.TheConstants.{MAX_MAPPING_PAGES}
+use Rattle.cmm_io.specs.DiskView.{DiskView}
+use Rattle.essa_state.specs.StateWord.{is_unused}
+use Rattle.cmm_storage.specs.StorageView.{StorageView, can_store}
+use Rattle.guest_pages.specs.PagesView.{info_at}
+use Rattle.guest_cache.specs.CacheView.{IsTag}
+use Rattle.guest_maps.specs.MapsView.{IsPlace}
+use Rattle.guest_rules.specs.declared.parts.Parts.{Parts}
+use Rattle.guest_rules.specs.Rows.{backing_at}
+
+-- the page is one of the guest's, which entries may show; it isn't free, and whatever tag it has is one
+pub record IsInUse (parts : Parts) (page : ℕ) : Type 0 where
+  pub below : page < length parts.pages.infos
+  pub shown : page < parts.maps.pages
+  pub not_free : Contains parts.pages.free page → ⊥
+  pub tag : IfSome (info_at parts.pages page).tag (λ tag. IsTag parts.cache tag)
+
+-- ---- a page that is held
+
+-- one of the guest's pages is held
+pub record IsHeld (parts : Parts) (v : StorageView) (page : ℕ) : Type 0 where
+  pub below : page < length parts.pages.infos
+  pub held : v.held ≡ Some page
+
+-- a page in use is held
+pub record HasTaken (parts : Parts) (v : StorageView) (page : ℕ) : Type 0 where
+  pub in_use : IsInUse parts page
+  pub held : v.held ≡ Some page
+
+-- a held page takes bytes: it was touched, and is stable
+pub record TakesBytes (v : StorageView) (page : ℕ) : Type 0 where
+  pub touched : v.touched ≡ true
+  pub stable : (v.values page).usage ≡ S
+
+-- ---- a page that is to be taken
+
+-- a page in use can be taken: the storage has it, and holds none
+pub record CanTake (parts : Parts) (v : StorageView) (page : ℕ) : Type 0 where
+  pub in_use : IsInUse parts page
+  pub there : page < v.pages
+  pub none_held : v.held ≡ None
+
+-- it can be loaded from through an entry
+pub record CanLoad (parts : Parts) (v : StorageView) (page : ℕ) : Type 0 where
+  pub takes : CanTake parts v page
+  pub used : is_unused (v.values page).usage ≡ false
+
+-- it can be stored to through an entry
+pub record CanStore (parts : Parts) (v : StorageView) (page : ℕ) : Type 0 where
+  pub takes : CanTake parts v page
+  pub writable : can_store (v.values page).usage ≡ true
+
+-- a command's bytes lie in one page, from an offset on
+pub record IsInPage (off len : ℕ) : Type 0 where
+  pub few : len ≤ MAX_BYTES
+  pub within : off + len ≤ PAGE
+
+-- ---- a place of a mapping
+
+-- its entry can be set to show the page: one writer more can be counted
+pub record CanMap (parts : Parts) (page slot index : ℕ) : Type 0 where
+  pub place : IsPlace parts.maps slot index
+  pub writers : (info_at parts.pages page).writers ≤ MAX_MAPPING_SLOTS * MAX_MAPPING_PAGES
+
+-- it can be pinned or unpinned, with the page: one pin more can be counted, or one less
+pub record CanPin (parts : Parts) (page slot index : ℕ) (pins : Bool) : Type 0 where
+  pub place : IsPlace parts.maps slot index
+  pub most : (info_at parts.pages page).pins ≤ MAX_MAPPING_SLOTS * MAX_MAPPING_PAGES
+  pub some : pins ≡ false → 1 ≤ (info_at parts.pages page).pins
+
+-- ---- a page and its block
+
+-- the page can be filled: the disk has the block that backs its tag, if one does
+pub record CanFill (parts : Parts) (v : StorageView) (d : DiskView) (page : ℕ) : Type 0 where
+  pub takes : CanTake parts v page
+  pub block : IfSome (backing_at parts page) (λ block. block < d.count)
+
+-- the page can be written back to the block that backs its tag
+pub record CanWriteBack (parts : Parts) (v : StorageView) (d : DiskView) (page : ℕ) : Type 0 where
+  pub below : page < length parts.pages.infos
+  pub there : page < v.pages
+  pub tag : IfSome (info_at parts.pages page).tag (λ tag. IsTag parts.cache tag)
+  pub block : IfSome (backing_at parts page) (λ block. block < d.count)
+  pub used : is_unused (v.values page).usage ≡ false
+  pub none_held : v.held ≡ None
