@@ -1,0 +1,2 @@
+mod Parser
+mod Lines

@@ -1,0 +1,7 @@
+use Rattle.std.proofs.Common.{◌≡◌, drop, map, string_bytes}
+use Rattle.std.specs.List.{list_any}
+use Rattle.cmm_line.specs.Words.{is_option}
+use Rattle.cmm_line.proofs.line.has_option.Given as goal
+
+abbrev pub invariant-loop-word : goal.invariant-loop-word
+invariant-loop-word l = list_any is_option (map string_bytes l.words) ≡ list_any is_option (map string_bytes (drop l.word-index l.words))

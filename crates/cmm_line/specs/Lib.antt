@@ -1,0 +1,3 @@
+pub mod Words
+pub mod Parser
+pub mod Line

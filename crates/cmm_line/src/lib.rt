@@ -1,0 +1,10 @@
+//! The command lines of the program.
+#![tactic(auto)]
+
+mod line;
+mod words;
+
+pub use line::{Line, MAX_SIZE, MIN_SIZE, line_of};
+
+#[cfg(test)]
+mod tests;
