@@ -1,0 +1,4 @@
+pub mod Digits
+pub mod ReadingLaws
+pub mod EntryLaws
+pub mod AnswerLaws
