@@ -26,8 +26,8 @@ abbrev pub IsWide : TableId → ℕ → Type 0
 IsWide table n = (table.slots ≡ n) × (table.words ≡ n + 1)
 
 -- a seat that has taken the word, with its slot and its frame, since its view was v
-abbrev pub HasTaken : PoolView → ℕ → PoolSeated → Type 0
-HasTaken v word m = (f : FrameView) × (m ≡ (view v.region (Taken word) 0 m.0.next v.dry (v.taken + 1) v.given, (word, Some f) ∷ [])) × IsFrameOf v.region word f
+abbrev pub TookWord : PoolView → ℕ → PoolSeated → Type 0
+TookWord v word m = (f : FrameView) × (m ≡ (view v.region (Taken word) 0 m.0.next v.dry (v.taken + 1) v.given, (word, Some f) ∷ [])) × IsFrameOf v.region word f
 
 -- a seat that goes round n frame words: k of them in order were found out, and `at` is the next
 pub record IsScanning (n k at : ℕ) (v : PoolView) (m : PoolSeated) : Type 0 where

@@ -144,7 +144,7 @@ impl Pool {
     /// first.
     pub fn give(&self, seat: &mut PoolSeat, loan: Loan)
         requires seat { seat.old.pool ≡ self.now }
-        requires loan { loan.pool ≡ self.now }
+        requires loan { loan.pool.table ≡ self.now.table }
         ensures { seat.new ≡ record seat.old { given = seat.old.given + 1 } }
     {
         let Loan { frame, badge } = loan;

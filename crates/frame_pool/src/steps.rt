@@ -3,7 +3,7 @@ ghost use Rattle.std.specs.Prelude.{◌≡◌, ℕ, ◌+◌, ◌<◌, [], ◌∷
 ghost use Rattle.page_arena.specs.FrameView.{RegionView, FrameView};
 ghost use Rattle.frame_pool.specs.PoolRule.{IsFrameOf};
 ghost use Rattle.frame_pool.specs.Plays.{naming, found_out_at, dried, taking, returning, split_off, lending, joined, next_round};
-ghost use Rattle.frame_pool.specs.Seats.{IsWide, IsIdle, HasTaken, IsLending};
+ghost use Rattle.frame_pool.specs.Seats.{IsWide, IsIdle, TookWord, IsLending};
 ghost use Rattle.frame_pool.specs.declared.view.Named.TheVariants.{Idle, Taken, Lent, Spent};
 
 use crate::rule::{
@@ -156,7 +156,7 @@ pub(crate) fn find(words: &Words, seat: &mut Held, frames: usize, start: usize) 
     ensures none { IfNone result (IsIdle seat.new.me × (seat.new.me.0.region ≡ seat.old.me.0.region) × (seat.new.me.0.dry ≡ seat.old.me.0.dry + 1)) }
     ensures counts { IfNone result ((seat.new.me.0.taken ≡ seat.old.me.0.taken) × (seat.new.me.0.given ≡ seat.old.me.0.given)) }
     ensures word { IfSome result (λ word. word < frames) }
-    ensures some { IfSome result (λ word. HasTaken seat.old.me.0 word seat.new.me) }
+    ensures some { IfSome result (λ word. TookWord seat.old.me.0 word seat.new.me) }
 {
     let mut word = start;
     for _tried in 0..frames {

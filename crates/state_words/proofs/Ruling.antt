@@ -8,18 +8,18 @@ use Rattle.essa_state.specs.PageBody.{Body}
 use Rattle.atomic_table.specs.Table.{State}
 use Rattle.atomic_table.specs.Seated.{TableId}
 use Rattle.state_words.specs.SeatView.{Guest, SeatView, value_at, busied}
-use Rattle.state_words.specs.WordsRule.{SeatHolds, IsHeld, PageFits, WordsRule}
+use Rattle.state_words.specs.WordsRule.{SeatHolds, HasHolder, PageFits, WordsRule}
 use Rattle.state_words.specs.Closing.{is_busy_number}
 
 module _ {D : Type 0} (body : D → Body) (house_of : D → TableId) (house : TableId) where
-  pub held_where_busy : (s : State (Option D) SeatView) (page : ℕ) → WordsRule body house_of house s → page < length s.words → is_busy_number (slice_index s.words page) ≡ true → IsHeld s.views page
+  pub held_where_busy : (s : State (Option D) SeatView) (page : ℕ) → WordsRule body house_of house s → page < length s.words → is_busy_number (slice_index s.words page) ≡ true → HasHolder s.views page
   held_where_busy s page r inside busy = go (r.by page) (r.pages page inside)
     where
-      go : (o : Option ℕ) → PageFits body house_of house s (value_at r.values page) page o → IsHeld s.views page
+      go : (o : Option ℕ) → PageFits body house_of house s (value_at r.values page) page o → HasHolder s.views page
       go None h = absurd (let bad : false ≡ true = sym (ap (λ q. q.busy) (fields_at-number (slice_index s.words page) h.word h.written) ∙ h.free) ∙ busy in cc)
       go (Some seat) h = (seat, h)
 
-  pub busy_where_held : (s : State (Option D) SeatView) (page : ℕ) → WordsRule body house_of house s → IsHeld s.views page → is_busy_number (slice_index s.words page) ≡ true
+  pub busy_where_held : (s : State (Option D) SeatView) (page : ℕ) → WordsRule body house_of house s → HasHolder s.views page → is_busy_number (slice_index s.words page) ≡ true
   busy_where_held s page r (seat, h) =
       let f = ((r.seats seat h.view h.there).holds h.hold h.held).1 in
       ap (λ q. q.busy) (fields_at-number (slice_index s.words page) (busied h.hold.word) (ap (slice_index s.words) (sym h.of_page) ∙ f.written))

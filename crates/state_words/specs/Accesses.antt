@@ -26,7 +26,7 @@ touched_body Preserved body = record body { frame = Some body.block }
 touched_body Zero body = record body { frame = Some zero_page }
 
 -- a resident page that may be written, and bytes that lie within it
-pub record CanStore (w : Fields) (off : ℕ) (bytes : List ℕ) : Type 0 where
+pub record AllowsStore (w : Fields) (off : ℕ) (bytes : List ℕ) : Type 0 where
   pub resident : is_resident w.content ≡ true
   pub writable : can_store w.usage ≡ true
   pub within : off + length bytes ≤ PAGE
@@ -45,7 +45,7 @@ pub data Reaches (w : Fields) (body : Body) : Fields → Body → Type 0 where
   Held : Reaches w body w body
   Ordered : (code : Order) (x : Fields) (there : Body) → Reaches w body x there → Reaches w body (after_order x code) there
   Touched : (x : Fields) (there : Body) → CanTouch x → Reaches w body x there → Reaches w body (touched_word x) (touched_body x.content there)
-  Stored : (off : ℕ) (bytes : List ℕ) (x : Fields) (there : Body) → CanStore x off bytes → Reaches w body x there → Reaches w body (stored_word x) (stored_body there off bytes)
+  Stored : (off : ℕ) (bytes : List ℕ) (x : Fields) (there : Body) → AllowsStore x off bytes → Reaches w body x there → Reaches w body (stored_word x) (stored_body there off bytes)
   ChangeTaken : (x : Fields) (there : Body) → Reaches w body x there → Reaches w body (change_taken x) there
 
 -- the same as a fact, whatever the orders and accesses were

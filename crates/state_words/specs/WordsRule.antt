@@ -51,8 +51,8 @@ pub record SeatHolds (views : List SeatView) (seat page : ℕ) : Type 0 where
   pub of_page : hold.page ≡ page
 
 -- some seat holds the page
-abbrev pub IsHeld : List SeatView → ℕ → Type 0
-IsHeld views page = (seat : ℕ) × SeatHolds views seat page
+abbrev pub HasHolder : List SeatView → ℕ → Type 0
+HasHolder views page = (seat : ℕ) × SeatHolds views seat page
 
 module _ {D : Type 0} (body : D → Body) (house_of : D → TableId) where
   -- a page is free and its body at home, or some seat holds it

@@ -6,7 +6,7 @@ ghost use Rattle.essa_state.specs.PageValue.{PageValue};
 ghost use Rattle.atomic_table.specs.Table.{State};
 ghost use Rattle.atomic_table.specs.Seated.{TableId};
 ghost use Rattle.state_words.specs.SeatView.{Guest, SeatView};
-ghost use Rattle.state_words.specs.WordsRule.{WordsRule, SeatHolds, IsHeld};
+ghost use Rattle.state_words.specs.WordsRule.{WordsRule, SeatHolds, HasHolder};
 ghost use Rattle.state_words.specs.Closing.{is_busy_number};
 
 use crate::rule::Body;
@@ -15,7 +15,7 @@ use crate::rule::Body;
 /// no two seats are the guest's.
 pub fn one_seat_holds<B: Body>()
     ensures busy { (house : TableId) (s : State (Option B) SeatView) (page : ℕ) → WordsRule B.body B.house house s → page < length s.words
-        → ((is_busy_number (slice_index s.words page) ≡ true) ↔ IsHeld s.views page) }
+        → ((is_busy_number (slice_index s.words page) ≡ true) ↔ HasHolder s.views page) }
     ensures one_holder { (house : TableId) (s : State (Option B) SeatView) (page i j : ℕ) → WordsRule B.body B.house house s
         → SeatHolds s.views i page → SeatHolds s.views j page → i ≡ j }
     ensures one_guest { (house : TableId) (s : State (Option B) SeatView) (i j : ℕ) (v w : SeatView) (vs ws : List PageValue) → WordsRule B.body B.house house s

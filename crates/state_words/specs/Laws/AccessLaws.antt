@@ -13,7 +13,7 @@ use Rattle.essa_state.specs.Orders.{after_order}
 use Rattle.essa_state.specs.PageBody.{Body, FitsWord}
 use Rattle.essa_state.specs.Laws.PageValueLaws.{ordered-fits}
 use Rattle.state_words.specs.SeatView.{Hold}
-use Rattle.state_words.specs.Accesses.{CanTouch, touched_word, touched_body, CanStore, stored_word, stored_body, change_taken, Reaches, Held, Ordered, Touched, Stored, ChangeTaken, Leads}
+use Rattle.state_words.specs.Accesses.{CanTouch, touched_word, touched_body, AllowsStore, stored_word, stored_body, change_taken, Reaches, Held, Ordered, Touched, Stored, ChangeTaken, Leads}
 
 module _ (w : Fields) (body : Body) where
   pub Leads-same : Leads w body w body
@@ -25,7 +25,7 @@ module _ (w : Fields) (body : Body) where
   pub Leads-touched : (x : Fields) (there : Body) → CanTouch x → Leads w body x there → Leads w body (touched_word x) (touched_body x.content there)
   Leads-touched x there can l = ∥∥₁_elim l squash₁ (λ r. ∣ Touched x there can r ∣₁)
 
-  pub Leads-stored : (off : ℕ) (bytes : List ℕ) (x : Fields) (there : Body) → CanStore x off bytes → Leads w body x there → Leads w body (stored_word x) (stored_body there off bytes)
+  pub Leads-stored : (off : ℕ) (bytes : List ℕ) (x : Fields) (there : Body) → AllowsStore x off bytes → Leads w body x there → Leads w body (stored_word x) (stored_body there off bytes)
   Leads-stored off bytes x there can l = ∥∥₁_elim l squash₁ (λ r. ∣ Stored off bytes x there can r ∣₁)
 
   pub Leads-change_taken : (x : Fields) (there : Body) → Leads w body x there → Leads w body (change_taken x) there
