@@ -38,7 +38,8 @@ pub option_line : (words : List (List ℕ)) → list_any is_option words ≡ tru
 unfolding line_of
 option_line words option = rw option refl
 
-pub named_line : (words : List (List ℕ)) (name : List ℕ) (rest : List (List ℕ)) (line : Option Line) → list_any is_option words ≡ false → words ≡ name ∷ rest → line ≡ line_named name rest → line ≡ line_of words
+pub named_line : (words : List (List ℕ)) (name : List ℕ) (rest : List (List ℕ)) (line : Option Line)
+    → list_any is_option words ≡ false → words ≡ name ∷ rest → line ≡ line_named name rest → line ≡ line_of words
 unfolding line_of
 named_line words name rest line plain is named = rw plain (named ∙ sym (ap line_in is))
 

@@ -25,7 +25,8 @@ pub fn numbers_read_back()
 /// One to 64 bytes read back, alone and behind a space.
 pub fn bytes_read_back()
     ensures alone { (bytes : List ℕ) → 1 ≤ length bytes → length bytes ≤ MAX_BYTES → IsBytes bytes → word_bytes (encode_lower bytes) ≡ Ok bytes }
-    ensures spaced { (bytes : List ℕ) (words : List (List ℕ)) → 1 ≤ length bytes → length bytes ≤ MAX_BYTES → IsBytes bytes → take_bytes (spaced (encode_lower bytes ∷ words)) ≡ Ok (bytes, spaced words) }
+    ensures spaced { (bytes : List ℕ) (words : List (List ℕ))
+        → 1 ≤ length bytes → length bytes ≤ MAX_BYTES → IsBytes bytes → take_bytes (spaced (encode_lower bytes ∷ words)) ≡ Ok (bytes, spaced words) }
 {}
 
 /// A command that is in range reads back.

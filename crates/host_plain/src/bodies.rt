@@ -116,7 +116,8 @@ impl Bodies {
         ensures len { vec_len into.new ≡ vec_len into.old + self.frames }
         ensures before { take (vec_len into.old) into.new.items ≡ into.old.items }
         ensures of_region { All (IsOf result) (drop (vec_len into.old) into.new.items) }
-        ensures numbers { (number : ℕ) → sum_by (is_number number) (map (λ f. f.number) (drop (vec_len into.old) into.new.items)) ≡ sum_by (is_taken number) self.numbers.taken + sum_by (is_number number) self.numbers.spare }
+        ensures numbers { (number : ℕ) → sum_by (is_number number) (map (λ f. f.number) (drop (vec_len into.old) into.new.items))
+            ≡ sum_by (is_taken number) self.numbers.taken + sum_by (is_number number) self.numbers.spare }
     {
         match into.append(&mut self.free) {
             Ok(()) => take_frames(self.pages, into),

@@ -29,7 +29,8 @@ returns c =
     host_serves c.args.self.now (Touch c.args.page c.touch-touched.result) _ is c.requires.held
     (subst (λ (k : HostState). HostStep k (Touch c.args.page c.touch-touched.result)
     (host_with h c.touch-touched.new.self (slice_set h.pagers h.guest c.touch-touched.new.pager) h.own h.held (h.touched || c.is_ok.result))) c.self.view_is
-    (touch-step h c.args.page c.list_place-place.result c.touch-touched.result c.touch-touched.new.self c.index_mut.result.now c.touch-touched.new.pager c.is_ok.result there pager c.is_ok.ensures.value
+    (touch-step h c.args.page c.list_place-place.result c.touch-touched.result c.touch-touched.new.self c.index_mut.result.now
+    c.touch-touched.new.pager c.is_ok.result there pager c.is_ok.ensures.value
     c.touch-touched.ensures.answer c.touch-touched.ensures.memory c.touch-touched.ensures.pager))
 
 pub invariant_of-self : goal.invariant_of-self
