@@ -1,5 +1,6 @@
 -- Laws of the definitions beside this folder, which proofs here and in other crates cite. Nobody has to believe them.
 pub mod BytesLaws
+pub mod CountLaws
 pub mod FlatLaws
 pub mod LegalLaws
 pub mod PlaceLaws

@@ -24,6 +24,10 @@ command_of plan cpu k = of (slice_get plan.cpus cpu)
     of None = None
     of (Some its) = slice_get its.commands k
 
+-- how many commands all processors have
+abbrev pub all_commands : GuestPlan → ℕ
+all_commands plan = sum_by (λ cpu. length cpu.commands) plan.cpus
+
 -- the process of a processor
 abbrev pub process_of : GuestPlan → ℕ → ℕ
 process_of plan cpu = of (slice_get plan.cpus cpu)

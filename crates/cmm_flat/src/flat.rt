@@ -1,11 +1,13 @@
-ghost use Rattle.std.specs.Prelude.{◌≡◌, ◌≤◌, ◌<◌, ◌+◌, ◌*◌, ◌^◌, ℕ, length, IfOk, IfSome, OnErr, All, Some, None};
+ghost use Rattle.std.specs.Prelude.{◌≡◌, ◌≤◌, ◌<◌, ◌+◌, ◌*◌, ◌^◌, ℕ, nat_lt, nat_le, length, IfOk, IfSome, OnErr, All, Some, None};
 ghost use Rattle.cmm_types.specs.declared.bytes.TheConstants.{MAX_BYTES};
 ghost use Rattle.cmm_types.specs.declared.command.TheConstants.{MAX_MAPPING_PAGES};
 ghost use Rattle.std.specs.Option.{option_copied};
+ghost use Rattle.cmm_types.specs.declared.command.Reply.TheVariants.{Done};
 ghost use Rattle.cmm_types.specs.declared.command.Op.TheVariants.{Read, Write, Sync, MapFile, MapAnon, Unmap, Load, Store, Pin, Unpin};
 ghost use Rattle.cmm_types.specs.InRange.{FileInRange, OpInRange};
 ghost use Rattle.cmm_flat.specs.State.{Shows, opening, mapping_at};
 ghost use Rattle.cmm_flat.specs.Flat.{flat_step, in_file, is_full};
+ghost use Rattle.cmm_flat.specs.Legal.{over_live, pinned_pages, anonymous_pages, pages_ended};
 
 use crate::NoMemory;
 use crate::contents::Contents;
@@ -52,22 +54,28 @@ impl Flat {
     }
 
     /// Whether there is such a file, and it has `len` bytes from `off` on.
-    fn in_file(&self, file: u32, off: usize, len: usize) -> bool
+    pub(crate) fn in_file(&self, file: u32, off: usize, len: usize) -> bool
         requires { off + len < 2 ^ 64 }
         ensures { result ≡ in_file self.now.files file off len }
     {
         (file as usize) < self.files.len() && off + len <= self.files[file as usize].len()
     }
 
+    pub(crate) fn has_file(&self, file: u32) -> bool
+        ensures { result ≡ nat_lt file (length self.now.files) }
+    {
+        (file as usize) < self.files.len()
+    }
+
     /// The live mapping with this number in this process.
-    fn mapping(&self, process: u32, map: u32) -> Option<&Mapping>
+    pub(crate) fn mapping(&self, process: u32, map: u32) -> Option<&Mapping>
         ensures at { option_copied result ≡ mapping_at self.now process map }
         ensures shows { IfSome result (λ mapping. Shows self.now.files mapping.now) }
     {
         self.mappings.get(Place { process, map })
     }
 
-    fn is_full(&self) -> bool
+    pub(crate) fn is_full(&self) -> bool
         ensures { result ≡ is_full self.now }
     {
         self.mappings.len() >= MAX_LIVE_MAPPINGS as usize
@@ -265,6 +273,33 @@ impl Flat {
         }
         self.mappings.set_pin(Place { process, map }, page, false);
         Reply::Done
+    }
+
+    /// Whether at least so many pages of live mappings are pinned.
+    pub fn has_pinned(&self, count: usize) -> bool
+        ensures { result ≡ nat_le count (over_live pinned_pages self.now) }
+    {
+        self.mappings.has_pinned(count)
+    }
+
+    /// Whether the live anonymous mappings have at least so many pages.
+    pub fn has_anonymous(&self, count: usize) -> bool
+        ensures { result ≡ nat_le count (over_live anonymous_pages self.now) }
+    {
+        self.mappings.has_anonymous(count)
+    }
+
+    /// The pages of the anonymous mapping that an unmap would end; none for another command.
+    pub fn would_end(&self, process: u32, op: &Op) -> usize
+        ensures { result ≡ pages_ended self.now process op.now Done }
+    {
+        let Op::Unmap { map } = op else {
+            return 0;
+        };
+        match self.mapping(process, *map) {
+            Some(mapping) => mapping.anonymous_pages(),
+            None => 0,
+        }
     }
 
     /// Does a command of a process. It takes memory where it maps; after `NoMemory` nothing has changed. It

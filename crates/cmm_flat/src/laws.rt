@@ -1,7 +1,7 @@
 //! What holds of all journals, states and byte ranges. Each law stands on the definitions alone, so that its
 //! function does nothing.
 
-ghost use Rattle.std.specs.Prelude.{◌≡◌, ◌≢◌, ◌≤◌, ◌<◌, ◌+◌, ◌-◌, ℕ, List, [], ◌∷◌, ◌++◌, length, map, Some};
+ghost use Rattle.std.specs.Prelude.{◌≡◌, ◌≢◌, ◌↔◌, ◌≤◌, ◌<◌, ◌+◌, ◌-◌, ℕ, List, [], ◌∷◌, ◌++◌, length, map, Some};
 ghost use Rattle.cmm_types.specs.declared.plan.GuestPlan.{GuestPlan};
 ghost use Rattle.cmm_types.specs.declared.command.Entry.{Entry};
 ghost use Rattle.cmm_types.specs.declared.command.Reply.TheVariants.{Fail};
@@ -17,7 +17,7 @@ ghost use Rattle.cmm_flat.specs.WorkedJournals.{hello, hellp, reads_twice, read_
 ghost use Rattle.cmm_flat.specs.Laws.SumLaws.{number_before};
 ghost use Rattle.cmm_flat.specs.State.{FlatState, IsSound};
 ghost use Rattle.cmm_flat.specs.Flat.{refusal_of, flat_step};
-ghost use Rattle.cmm_flat.specs.Legal.{Walk, start_of, sum_over, progress_of, after, walk_of, IsNext, Legal};
+ghost use Rattle.cmm_flat.specs.Legal.{Walk, start_of, sum_over, progress_of, all_commands, after, walk_of, IsNext, Legal, Complete};
 
 /// A legal journal and one more entry that may come next are legal, and lead where that entry leads.
 pub fn journal_grows()
@@ -31,6 +31,12 @@ pub fn entry_takes_its_number()
     ensures own { (plan : GuestPlan) (walk : Walk) (entry : Entry) → entry.cpu < length walk.cpus → (progress_of (after plan walk entry) entry.cpu).next ≡ (progress_of walk entry.cpu).next + 1 }
 {}
 
+/// A legal journal has at most an entry for each command, and one for each exactly where it is complete.
+pub fn entries_are_of_commands()
+    ensures most { (plan : GuestPlan) (journal : List Entry) → Legal plan journal → length journal ≤ all_commands plan }
+    ensures complete { (plan : GuestPlan) (journal : List Entry) → Legal plan journal → (Complete plan journal ↔ length journal ≡ all_commands plan) }
+{}
+
 /// A failure leaves the flat state.
 pub fn failure_leaves_state()
     ensures { (plan : GuestPlan) (walk : Walk) (entry : Entry) (cause : Cause) → entry.reply ≡ Fail cause → (after plan walk entry).flat ≡ walk.flat }
@@ -39,8 +45,11 @@ pub fn failure_leaves_state()
 /// A write leaves the bytes below it and above it. A range round it, as its page, has it at its own place.
 pub fn ranges_apart()
     ensures below { (all : List ℕ) (off : ℕ) (bytes : List ℕ) (from len : ℕ) → off ≤ length all → from + len ≤ off → bytes_at (with_bytes all off bytes) from len ≡ bytes_at all from len }
-    ensures above { (all : List ℕ) (off : ℕ) (bytes : List ℕ) (from len : ℕ) → off + length bytes ≤ length all → off + length bytes ≤ from → bytes_at (with_bytes all off bytes) from len ≡ bytes_at all from len }
-    ensures round { (all : List ℕ) (off : ℕ) (bytes : List ℕ) (from len : ℕ) → off + length bytes ≤ length all → from ≤ off → off + length bytes ≤ from + len → bytes_at (with_bytes all off bytes) from len ≡ with_bytes (bytes_at all from len) (off - from) bytes }
+    ensures above { (all : List ℕ) (off : ℕ) (bytes : List ℕ) (from len : ℕ)
+        → off + length bytes ≤ length all → off + length bytes ≤ from → bytes_at (with_bytes all off bytes) from len ≡ bytes_at all from len }
+    ensures round { (all : List ℕ) (off : ℕ) (bytes : List ℕ) (from len : ℕ)
+        → off + length bytes ≤ length all → from ≤ off → off + length bytes ≤ from + len
+        → bytes_at (with_bytes all off bytes) from len ≡ with_bytes (bytes_at all from len) (off - from) bytes }
 {}
 
 /// The flat machine never answers `Fail`.
@@ -58,13 +67,17 @@ pub fn steps_stay_sound()
 
 /// Whether and why a command is refused depends on the lengths of the files and on the live mappings alone.
 pub fn refusals_depend_on_lengths()
-    ensures { (state : FlatState) (others : List (List ℕ)) (process : ℕ) (op : Op) → map length others ≡ map length state.files → refusal_of (record state { files = others }) process op ≡ refusal_of state process op }
+    ensures { (state : FlatState) (others : List (List ℕ)) (process : ℕ) (op : Op)
+        → map length others ≡ map length state.files → refusal_of (record state { files = others }) process op ≡ refusal_of state process op }
 {}
 
 /// A sum over the live mappings changes at one place alone.
 pub fn sums_change_at_one_place()
-    ensures insert { (number : Place × Mapping → ℕ) (live : finite.FinMap place_cmp Mapping) (place : Place) (mapping : Mapping) → sum_over number (finite.entries (finite.insert live place mapping)) + number_before number place (finite.get live place) ≡ sum_over number (finite.entries live) + number (place, mapping) }
-    ensures remove { (number : Place × Mapping → ℕ) (live : finite.FinMap place_cmp Mapping) (place : Place) (mapping : Mapping) → finite.get live place ≡ Some mapping → sum_over number (finite.entries (finite.remove live place)) + number (place, mapping) ≡ sum_over number (finite.entries live) }
+    ensures insert { (number : Place × Mapping → ℕ) (live : finite.FinMap place_cmp Mapping) (place : Place) (mapping : Mapping)
+        → sum_over number (finite.entries (finite.insert live place mapping)) + number_before number place (finite.get live place) ≡ sum_over number (finite.entries live) + number (place, mapping) }
+    ensures remove { (number : Place × Mapping → ℕ) (live : finite.FinMap place_cmp Mapping) (place : Place) (mapping : Mapping)
+        → finite.get live place ≡ Some mapping
+        → sum_over number (finite.entries (finite.remove live place)) + number (place, mapping) ≡ sum_over number (finite.entries live) }
 {}
 
 /// The worked journals are legal, and no longer with another byte, number or order.

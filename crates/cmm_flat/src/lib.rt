@@ -8,6 +8,7 @@ mod laws;
 mod mapping;
 mod mappings;
 mod pins;
+mod refusals;
 #[cfg(test)]
 mod tests;
 

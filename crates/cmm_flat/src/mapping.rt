@@ -1,6 +1,7 @@
 ghost use Rattle.std.specs.Prelude.{◌≡◌, ◌<◌, ◌≤◌, length};
+ghost use Rattle.cmm_flat.specs.Mapping.{HasRoom, length_of, shows_writable, written, with_pin};
+ghost use Rattle.cmm_flat.specs.Legal.{pinned_pages, anonymous_pages};
 ghost use Rattle.cmm_types.specs.declared.command.TheConstants.{MAX_MAPPING_PAGES};
-ghost use Rattle.cmm_flat.specs.Mapping.{HasRoom, length_of, written, with_pin};
 
 use crate::contents::Contents;
 use crate::pins::Pins;
@@ -42,6 +43,33 @@ impl Mapping {
         ensures { result ≡ length_of self.now }
     {
         PAGE * self.pins.len()
+    }
+
+    /// Whether its pages can be written.
+    pub fn shows_writable(&self) -> bool
+        ensures { result ≡ shows_writable self.now.shown }
+    {
+        match &self.shown {
+            Shown::OfFile { writable, .. } => *writable,
+            Shown::Anonymous { .. } => true,
+        }
+    }
+
+    /// How many of its pages are pinned.
+    pub fn pinned_pages(&self) -> usize
+        ensures { result ≡ pinned_pages self.now }
+    {
+        self.pins.count()
+    }
+
+    /// How many pages of its own it has.
+    pub fn anonymous_pages(&self) -> usize
+        ensures { result ≡ anonymous_pages self.now }
+    {
+        match &self.shown {
+            Shown::OfFile { .. } => 0,
+            Shown::Anonymous { .. } => self.pins.len(),
+        }
     }
 
     /// Puts bytes into the place of its own from `off` on, if it has bytes of its own.

@@ -1,8 +1,9 @@
-ghost use Rattle.std.specs.Prelude.{◌≡◌, ◌≤◌, ◌<◌, ◌+◌, ◌^◌, length, IfOk, OnOk, OnErr, OnSome, is_some, Some, None, false};
+ghost use Rattle.std.specs.Prelude.{◌≡◌, ◌≤◌, ◌<◌, ◌+◌, ◌^◌, length, IfOk, OnOk, OnErr, OnSome, nat_le, is_some, Some, None, false};
 ghost use Rattle.cmm_types.specs.declared.plan.TheConstants.{MAX_LIVE_MAPPINGS};
 ghost use Rattle.std.specs.Option.{option_copied, ForSome};
 ghost use Rattle.std.specs.FinMap as finite;
 ghost use Rattle.cmm_flat.specs.Mapping.{place_cmp, HasRoom, written, with_pin};
+ghost use Rattle.cmm_flat.specs.Legal.{pinned_pages, anonymous_pages, sum_over};
 
 use crate::NoMemory;
 use crate::mapping::{Mapping, Place};
@@ -52,6 +53,28 @@ impl Mappings {
         ensures { option_copied result ≡ finite.get self.now place }
     {
         self.live.get(&place)
+    }
+
+    /// Whether at least so many pages of the mappings are pinned.
+    pub fn has_pinned(&self, count: usize) -> bool
+        ensures { result ≡ nat_le count (sum_over (λ live. pinned_pages live.1) (finite.entries self.now)) }
+    {
+        let mut left = count;
+        for mapping in self.live.values() {
+            left = left.saturating_sub(mapping.pinned_pages());
+        }
+        left == 0
+    }
+
+    /// Whether the mappings have at least so many pages of their own.
+    pub fn has_anonymous(&self, count: usize) -> bool
+        ensures { result ≡ nat_le count (sum_over (λ live. anonymous_pages live.1) (finite.entries self.now)) }
+    {
+        let mut left = count;
+        for mapping in self.live.values() {
+            left = left.saturating_sub(mapping.anonymous_pages());
+        }
+        left == 0
     }
 
     /// Adds a mapping at a place that has none.

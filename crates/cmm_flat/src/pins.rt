@@ -1,5 +1,5 @@
 ghost use Rattle.std.specs.Prelude.{◌≡◌, ◌<◌, length, replicate, false, IfOk, slice_index_or, slice_set};
-ghost use Rattle.std.specs.List.{list_any};
+ghost use Rattle.std.specs.List.{list_any, count_by};
 
 use crate::NoMemory;
 use std::alloc::Global;
@@ -48,6 +48,13 @@ impl Pins {
         ensures { result ≡ list_any (λ pin. pin) self.now }
     {
         self.pinned.iter().any(|pin| *pin)
+    }
+
+    /// How many pages are pinned.
+    pub fn count(&self) -> usize
+        ensures { result ≡ count_by (λ pin. pin) self.now }
+    {
+        self.pinned.iter().filter(|pin| **pin).count()
     }
 
     pub fn set(&mut self, page: usize, pin: bool)
