@@ -13,11 +13,8 @@ use Rattle.cmm_types.specs.declared.page.Refused.TheVariants.{Stable, Changed, A
 use Rattle.cmm_report.specs.Texts.{answer_text}
 use Rattle.cmm_report.proofs.Splits.{IsFree-decimal}
 use Rattle.cmm_check.specs.Reading.{cut, behind, number_of, two_numbers, three_numbers}
-use Rattle.cmm_check.specs.Answers.{AnswerFits, IsEventLine, IsAgain, plain_answers, plain_answer, waits_of, alone_finished_of, alone_waits_of}
-use Rattle.cmm_check.specs.Answers.{reclaimed_count, reclaimed_paging, reclaimed_with, reclaimed_of, answer_of, event_head, event_of}
-use Rattle.cmm_check.proofs.ReadingLaws.{then_some, some_then, some_same, not_some, given_holds, same_bytes, cut-append, cut-parts, cut-none}
-use Rattle.cmm_check.proofs.ReadingLaws.{behind-append, behind-is, number_of-decimal, number_of-read, two_numbers-text, two_numbers-read}
-use Rattle.cmm_check.proofs.ReadingLaws.{three_numbers-text, three_numbers-read, first_named-text, first_named-all}
+use Rattle.cmm_check.specs.Answers.{AnswerFits, IsEventLine, IsAgain, plain_answers, plain_answer, waits_of, alone_finished_of, alone_waits_of, reclaimed_count, reclaimed_paging, reclaimed_with, reclaimed_of, answer_of, event_head, event_of}
+use Rattle.cmm_check.proofs.ReadingLaws.{then_some, some_then, some_same, not_some, given_holds, same_bytes, cut-append, cut-parts, cut-none, behind-append, behind-is, number_of-decimal, number_of-read, two_numbers-text, two_numbers-read, three_numbers-text, three_numbers-read, first_named-text, first_named-all}
 
 -- two and three numbers behind some words
 two_behind : (front : List ℕ) (a b : ℕ) → front ++ decimal a ++ codes " " ++ decimal b ≡ front ++ (decimal a ++ (32 ∷ decimal b))
@@ -43,12 +40,10 @@ unfolding alone_finished_of
 alone_finished_of-text turns small =
     then_some _ _ (decimal turns) _ (behind-append (codes "alone finished ") (decimal turns)) (then_some _ _ turns _ (number_of-decimal turns small) refl)
 
-alone_waits_of-text : (turns page owner : ℕ) → turns < 2 ^ 32 → page < 2 ^ 32 → owner < 2 ^ 32
-    → alone_waits_of (answer_text (AloneAnswer (AloneWaits turns page owner))) ≡ Some (AloneAnswer (AloneWaits turns page owner))
+alone_waits_of-text : (turns page owner : ℕ) → turns < 2 ^ 32 → page < 2 ^ 32 → owner < 2 ^ 32 → alone_waits_of (answer_text (AloneAnswer (AloneWaits turns page owner))) ≡ Some (AloneAnswer (AloneWaits turns page owner))
 unfolding alone_waits_of
 alone_waits_of-text turns page owner st sp so =
-    then_some _ _ (decimal turns ++ (32 ∷ (decimal page ++ (32 ∷ decimal owner)))) _
-    (ap (behind (codes "alone waits ")) (three_behind (codes "alone waits ") turns page owner) ∙ behind-append (codes "alone waits ") _)
+    then_some _ _ (decimal turns ++ (32 ∷ (decimal page ++ (32 ∷ decimal owner)))) _ (ap (behind (codes "alone waits ")) (three_behind (codes "alone waits ") turns page owner) ∙ behind-append (codes "alone waits ") _)
     (then_some _ _ (turns, (page, owner)) _ (three_numbers-text turns page owner st sp so) refl)
 
 reclaimed_count-text : (count : ℕ) → count < 2 ^ 32 → reclaimed_count (decimal count) ≡ Some (Reclaimed count false)
@@ -77,8 +72,7 @@ not_before_finished : (turns : ℕ) → (plain_answer (answer_text (AloneAnswer 
 unfolding plain_answer waits_of behind
 not_before_finished turns = (refl, refl)
 
-not_before_waits : (turns page owner : ℕ)
-    → (plain_answer (answer_text (AloneAnswer (AloneWaits turns page owner))) ≡ None) × (waits_of (answer_text (AloneAnswer (AloneWaits turns page owner))) ≡ None)
+not_before_waits : (turns page owner : ℕ) → (plain_answer (answer_text (AloneAnswer (AloneWaits turns page owner))) ≡ None) × (waits_of (answer_text (AloneAnswer (AloneWaits turns page owner))) ≡ None)
     × (alone_finished_of (answer_text (AloneAnswer (AloneWaits turns page owner))) ≡ None)
 unfolding plain_answer waits_of alone_finished_of behind
 not_before_waits turns page owner = (refl, refl, refl)

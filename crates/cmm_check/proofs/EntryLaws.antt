@@ -1,6 +1,5 @@
 -- The line of an entry is read as what it was written of, both ways.
-use Rattle.std.proofs.Common.{◌≡◌, ◌∙◌, ℕ, suc, ◌+◌, ◌*◌, ◌/◌, ◌%◌, ◌^◌, ◌<◌, ◌≤◌, List, [], ◌∷◌, ◌++◌, Bool, true, false, cond, Option, Some, None}
-use Rattle.std.proofs.Common.{Result, Ok, Err, length, refl, sym, ap, subst, arith, append_assoc}
+use Rattle.std.proofs.Common.{◌≡◌, ◌∙◌, ℕ, suc, ◌+◌, ◌*◌, ◌/◌, ◌%◌, ◌^◌, ◌<◌, ◌≤◌, List, [], ◌∷◌, ◌++◌, Bool, true, false, cond, Option, Some, None, Result, Ok, Err, length, refl, sym, ap, subst, arith, append_assoc}
 use Rattle.std.specs.Prelude.{◌&&◌, ◌||◌, nat_le, codes, decimal}
 use Rattle.std.specs.List.{list_any}
 use Rattle.std.specs.Char.{is_ascii_uppercase}
@@ -22,8 +21,7 @@ use Rattle.cmm_report.proofs.Splits.{IsFree-decimal}
 use Rattle.cmm_report.proofs.JournalLaws.{three_parts}
 use Rattle.cmm_check.specs.Reading.{cut, behind, number_of, two_numbers, decoded, bytes_of}
 use Rattle.cmm_check.specs.Entries.{IsReported, IsEntryLine, refusals, refusal_named, no_page_of, cause_of, bytes_reply_of, first_reply, reply_of, entry_head, entry_of}
-use Rattle.cmm_check.proofs.ReadingLaws.{then_some, some_then, some_same, not_some, same_bytes, cut-append, cut-parts, behind-append, behind-is}
-use Rattle.cmm_check.proofs.ReadingLaws.{number_of-decimal, number_of-read, two_numbers-text, two_numbers-read, first_named-text}
+use Rattle.cmm_check.proofs.ReadingLaws.{then_some, some_then, some_same, not_some, same_bytes, cut-append, cut-parts, behind-append, behind-is, number_of-decimal, number_of-read, two_numbers-text, two_numbers-read, first_named-text}
 
 -- ---- bytes
 
@@ -215,7 +213,7 @@ refusal_named-text NotPinned = refl
 refusal_named-text TooManyMaps = refl
 
 -- a refusal's text is no other's
-plain_refusal : (refusal : FlatRefusal) → (bytes_eq (flat_refusal_text refusal) (codes "ok") ≡ false) × (cause_of (flat_refusal_text refusal) ≡ None)
+pub plain_refusal : (refusal : FlatRefusal) → (bytes_eq (flat_refusal_text refusal) (codes "ok") ≡ false) × (cause_of (flat_refusal_text refusal) ≡ None)
 unfolding cause_of no_page_of behind
 plain_refusal NoMapping = (refl, refl)
 plain_refusal AlreadyMapped = (refl, refl)
@@ -225,7 +223,7 @@ plain_refusal Pinned = (refl, refl)
 plain_refusal NotPinned = (refl, refl)
 plain_refusal TooManyMaps = (refl, refl)
 
-plain_bytes : (bytes : List ℕ) → (cause_of (reply_text (Bytes bytes)) ≡ None) × (refusal_named (reply_text (Bytes bytes)) ≡ None)
+pub plain_bytes : (bytes : List ℕ) → (cause_of (reply_text (Bytes bytes)) ≡ None) × (refusal_named (reply_text (Bytes bytes)) ≡ None)
 unfolding cause_of no_page_of behind refusal_named
 plain_bytes bytes = (refl, refl)
 

@@ -2,3 +2,9 @@ pub mod Digits
 pub mod ReadingLaws
 pub mod EntryLaws
 pub mod AnswerLaws
+pub mod Walks
+pub mod Plans
+pub mod Planned
+pub mod OneMore
+pub mod AcceptedLaws
+pub mod LegalLaws

@@ -2,3 +2,9 @@ pub mod Reading
 pub mod Entries
 pub mod Answers
 pub mod Split
+pub mod Heads
+pub mod Journal
+pub mod Verdict
+pub mod Leads
+pub mod Accepted
+pub mod Judge

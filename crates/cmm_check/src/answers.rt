@@ -1,8 +1,7 @@
 ghost use Rattle.std.specs.Prelude.{◌≡◌, IfSome, IfNone, ℕ};
 ghost use Rattle.std.specs.Option.{option_map};
 ghost use Rattle.cmm_types.specs.declared.event.Answer.{Answer};
-ghost use Rattle.cmm_check.specs.Answers.{IsEventLine, IsAgain, plain_answer, waits_of, alone_finished_of, alone_waits_of, reclaimed_count};
-ghost use Rattle.cmm_check.specs.Answers.{reclaimed_paging, reclaimed_of, answer_of, event_head, event_of};
+ghost use Rattle.cmm_check.specs.Answers.{IsEventLine, IsAgain, plain_answer, waits_of, alone_finished_of, alone_waits_of, reclaimed_count, reclaimed_paging, reclaimed_of, answer_of, event_head, event_of};
 
 use crate::reading::{behind, cut, read_number, three_numbers, two_numbers};
 use cmm_types::{Alone, Answer, Refused, Turn};
@@ -105,7 +104,7 @@ fn reclaimed(text: &[u8]) -> Option<Answer>
 
 /// The answer that a text says; `None` for `again`, whose cause it leaves out.
 #[tactic(auto, unfolding(crate::specs::Answers::answer_of))]
-fn answer_of(text: &[u8]) -> Option<Answer>
+pub fn answer_of(text: &[u8]) -> Option<Answer>
     ensures { result ≡ answer_of text.now }
 {
     if let Some(answer) = plain_answer(text) {

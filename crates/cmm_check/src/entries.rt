@@ -1,6 +1,7 @@
 ghost use Rattle.std.specs.Prelude.{◌≡◌, IfSome, IfNone, ℕ};
 ghost use Rattle.std.specs.Option.{option_map};
 ghost use Rattle.cmm_types.specs.declared.command.Reply.{Reply};
+ghost use Rattle.cmm_types.specs.declared.command.Reply.TheVariants.{Bytes};
 ghost use Rattle.cmm_check.specs.Entries.{IsEntryLine, refusal_named, no_page_of, cause_of, bytes_reply_of, reply_of, entry_head, entry_of};
 
 use crate::reading::{behind, cut, read_bytes, read_number, two_numbers};

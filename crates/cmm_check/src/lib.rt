@@ -1,14 +1,23 @@
-//! Reads the lines of a report, each exactly as the format has it, and finds a report behind its scenario.
+//! Judges a report: whether its journals are legal for a scenario, line by line.
 #![tactic(auto)]
 
 mod answers;
 mod entries;
 mod input;
+mod journal;
+mod judging;
+mod laws;
+mod lines;
 mod reading;
+mod verdict;
 
 pub use answers::read_answer;
 pub use entries::read_entry;
 pub use input::split;
+pub use judging::{InputError, MAX_CHECKED, MAX_SCENARIO, judge};
+pub use laws::{accepted_reports_are_legal, legal_reports_are_accepted};
+pub use std::alloc::AllocError as NoMemory;
+pub use verdict::{Verdict, check};
 
 #[cfg(test)]
 mod tests;

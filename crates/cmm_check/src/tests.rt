@@ -1,5 +1,7 @@
-use crate::{read_answer, read_entry, split};
+use crate::{InputError, Verdict, check, judge, read_answer, read_entry, split};
+use cmm_scenario::read_scenario;
 use cmm_types::{Alone, Answer, Bytes64, Cause, FlatRefusal, Refused, Reply, Turn};
+use std::alloc::Global;
 use std::test::Fail;
 
 #[test]
@@ -189,5 +191,158 @@ fn splits_behind_the_scenario(rt: HostRuntime) -> Result<(), Fail> {
     for (input, start) in &cases {
         assert!(rt; split(input) == *start);
     }
+    Ok(())
+}
+
+const TWO_GUESTS: &[u8] =
+    b"{\"version\":1,\"frames\":4,\"guests\":[{\"pages\":4,\"swap\":0,\"files\":[{\"pages\":1,\"head\":\"68656c6c6f\"}],\"disk_fail\":[7,7],\"cpus\":[{\"process\":0,\"commands\":[\"read 0 0 5\",\"sync 0\"]}]},{\"pages\":1,\"swap\":0,\"files\":[{\"pages\":1,\"head\":\"6a\"}],\"cpus\":[{\"process\":0,\"commands\":[\"mapanon 0 1\",\"store 0 0 61\",\"read 0 0 1\"]}]}],\"schedule\":[\"cpu 0 0\"]}";
+
+/// The verdict on a report of these two guests.
+fn verdict_on(alloc: Global, report: &[u8]) -> Result<Verdict, Fail> {
+    let Ok(plan) = read_scenario(alloc, TWO_GUESTS) else {
+        return Err("the scenario was refused".into());
+    };
+    if report.len() > 1000 {
+        return Err("the report is longer than these tests want".into());
+    }
+    Ok(check(alloc, &plan, report)?)
+}
+
+#[test]
+fn accepts_legal_reports(rt: HostRuntime) -> Result<(), Fail> {
+    let reports: [&[u8]; 5] = [
+        b"cmm2-report 1 replay\nevent 0 moved\nguest 0 entries 0 discards 0 faults 0\nguest 1 entries 0 discards 0 faults 0\nend\n",
+        b"cmm2-report 1 replay\nevent 0 again\nguest 0 entries 1 discards 2 faults 2\n0 0 ok 68656c6c6f\nguest 1 entries 0 discards 0 faults 0\nend\n",
+        b"cmm2-report 1 replay\nevent 0 idle\nguest 0 entries 0 discards 0 faults 0\nguest 1 entries 2 discards 0 faults 0\n0 0 ok\n0 1 ok\nend\n",
+        b"cmm2-report 1 run\nguest 0 entries 2 discards 0 faults 0\n0 0 ok 68656c6c6f\n0 1 fail disk\nguest 1 entries 3 discards 0 faults 0\n0 0 ok\n0 1 ok\n0 2 fail nopage 0 1\nend\n",
+        b"cmm2-report 1 run\nguest 0 entries 2 discards 18446744073709551615 faults 18446744073709551615\n0 0 fail disk\n0 1 ok\nguest 1 entries 3 discards 0 faults 0\n0 0 ok\n0 1 ok\n0 2 ok 6a\nend\n",
+    ];
+    for report in &reports {
+        assert!(rt; verdict_on(rt.alloc(), report)? == Verdict::Accepted);
+    }
+    Ok(())
+}
+
+#[test]
+fn names_the_first_line_that_does_not_fit(rt: HostRuntime) -> Result<(), Fail> {
+    let cases: [(&[u8], u32); 22] = [
+        (b"", 1),
+        (b"cmm2-report 1 run", 1),
+        (b"cmm2-report 2 run\n", 1),
+        (b"cmm2-report 1 replay\n", 2),
+        (b"cmm2-report 1 replay\nevent 1 moved\n", 2),
+        (b"cmm2-report 1 replay\nevent 0 gone\n", 2),
+        (
+            b"cmm2-report 1 replay\nguest 0 entries 0 discards 0 faults 0\n",
+            2,
+        ),
+        (b"cmm2-report 1 replay\nevent 0 idle\nevent 1 idle\n", 3),
+        (
+            b"cmm2-report 1 replay\nevent 0 idle\nguest 1 entries 0 discards 0 faults 0\n",
+            3,
+        ),
+        (
+            b"cmm2-report 1 replay\nevent 0 idle\nguest 0 entries 3 discards 0 faults 0\n",
+            3,
+        ),
+        (
+            b"cmm2-report 1 replay\nevent 0 idle\nguest 0 entries 1 discards 0 faults 1\n",
+            3,
+        ),
+        (
+            b"cmm2-report 1 replay\nevent 0 idle\nguest 0 entries 1 discards 0 faults 0\n0 0 ok 68656c6c70\n",
+            4,
+        ),
+        (
+            b"cmm2-report 1 replay\nevent 0 idle\nguest 0 entries 1 discards 0 faults 0\n0 0 ok 68656C6C6F\n",
+            4,
+        ),
+        (
+            b"cmm2-report 1 replay\nevent 0 idle\nguest 0 entries 1 discards 0 faults 0\n0 1 ok\n",
+            4,
+        ),
+        (
+            b"cmm2-report 1 replay\nevent 0 idle\nguest 0 entries 1 discards 0 faults 0\n1 0 ok\n",
+            4,
+        ),
+        (
+            b"cmm2-report 1 replay\nevent 0 idle\nguest 0 entries 0 discards 0 faults 0\n0 0 ok 68656c6c6f\n",
+            4,
+        ),
+        (
+            b"cmm2-report 1 run\nguest 0 entries 1 discards 0 faults 0\n",
+            2,
+        ),
+        (
+            b"cmm2-report 1 run\nguest 0 entries 2 discards 0 faults 0\n0 0 fail disk\n0 1 fail disk\n",
+            4,
+        ),
+        (
+            b"cmm2-report 1 run\nguest 0 entries 2 discards 0 faults 0\n0 0 fail paging\n",
+            3,
+        ),
+        (
+            b"cmm2-report 1 run\nguest 0 entries 2 discards 0 faults 0\n0 0 fail nopage 2 2\n",
+            3,
+        ),
+        (
+            b"cmm2-report 1 run\nguest 0 entries 2 discards 0 faults 0\n0 0 ok 68656c6c6f\n0 1 ok\nguest 1 entries 3 discards 0 faults 0\n0 0 fail disk\n",
+            6,
+        ),
+        (
+            b"cmm2-report 1 replay\nevent 0 idle\nguest 0 entries 0 discards 0 faults 0\nguest 1 entries 0 discards 0 faults 0\nend\nend\n",
+            6,
+        ),
+    ];
+    for (report, line) in &cases {
+        let wanted = Verdict::Rejected { line: *line };
+        assert!(rt; verdict_on(rt.alloc(), report)? == wanted);
+    }
+    Ok(())
+}
+
+const READS: &[u8] =
+    b"{\"version\":1,\"frames\":4,\"guests\":[{\"pages\":4,\"swap\":0,\"files\":[{\"pages\":1,\"head\":\"68656c6c6f\"}],\"cpus\":[{\"process\":0,\"commands\":[\"read 0 0 5\"]}]}],\"schedule\":[\"cpu 0 0\",\"cpu 0 0\",\"cpu 0 0\"]}";
+
+/// What an input of this scenario and this text behind it comes to.
+fn judged(alloc: Global, text: &[u8]) -> Result<Result<Verdict, InputError>, Fail> {
+    let mut input = Vec::from_slice(alloc, READS)?;
+    input.extend_from_slice(text)?;
+    if input.len() > 1000 {
+        return Err("the input is longer than these tests want".into());
+    }
+    Ok(judge(alloc, input.as_slice()))
+}
+
+#[test]
+fn judges_the_report_behind_a_scenario(rt: HostRuntime) -> Result<(), Fail> {
+    let alloc = rt.alloc();
+    let accepted =
+        b"\ncmm2-report 1 replay\nevent 0 moved\nevent 1 moved\nevent 2 finished\nguest 0 entries 1 discards 0 faults 0\n0 0 ok 68656c6c6f\nend\n";
+    let other_bytes =
+        b"\ncmm2-report 1 replay\nevent 0 moved\nevent 1 moved\nevent 2 finished\nguest 0 entries 1 discards 0 faults 0\n0 0 ok 68656c6c70\nend\n";
+    let no_end =
+        b"\ncmm2-report 1 replay\nevent 0 moved\nevent 1 moved\nevent 2 finished\nguest 0 entries 1 discards 0 faults 0\n0 0 ok 68656c6c6f\n";
+    assert!(rt; matches!(judged(alloc, accepted)?, Ok(Verdict::Accepted)));
+    assert!(rt;
+        matches!(
+            judged(alloc, other_bytes)?,
+            Ok(Verdict::Rejected { line: 6 })
+        )
+    );
+    assert!(rt; matches!(judged(alloc, no_end)?, Ok(Verdict::Rejected { line: 7 })));
+    assert!(rt; matches!(judged(alloc, b"\n")?, Err(InputError::NoReport)));
+    assert!(rt;
+        matches!(
+            judged(alloc, b"}\ncmm2-report 1 run\n")?,
+            Err(InputError::NotJson)
+        )
+    );
+    assert!(rt;
+        matches!(
+            judge(alloc, b"{}\ncmm2-report 1 run\n"),
+            Err(InputError::Fault { .. })
+        )
+    );
     Ok(())
 }

@@ -72,14 +72,14 @@ free_answer (Reclaimed count paging) =
 
 -- the lines of a report without their line feeds
 
-abbrev head_text : Bool → List ℕ
+abbrev pub head_text : Bool → List ℕ
 head_text true = codes "cmm2-report 1 run"
 head_text false = codes "cmm2-report 1 replay"
 
-abbrev event_text : ℕ → Answer → List ℕ
+abbrev pub event_text : ℕ → Answer → List ℕ
 event_text number answer = codes "event " ++ decimal number ++ codes " " ++ answer_text answer
 
-abbrev guest_head : ℕ → GuestReport → List ℕ
+abbrev pub guest_head : ℕ → GuestReport → List ℕ
 guest_head number guest =
     codes "guest " ++ decimal number ++ codes " entries " ++ decimal (length guest.journal) ++ codes " discards " ++ decimal guest.discards ++ codes " faults " ++ decimal guest.faults
 
@@ -135,17 +135,17 @@ joined_report run answers guests =
 
 -- they are lines: no line feed stands in them
 
-free_head : (run : Bool) → IsFree 10 (head_text run)
+pub free_head : (run : Bool) → IsFree 10 (head_text run)
 free_head true = IsFree-text 10 (head_text true) refl
 free_head false = IsFree-text 10 (head_text false) refl
 
-free_event : (number : ℕ) (answer : Answer) → IsFree 10 (event_text number answer)
+pub free_event : (number : ℕ) (answer : Answer) → IsFree 10 (event_text number answer)
 free_event number answer =
     let front = codes "event " ++ decimal number in
     let free = free_word front (codes " ") refl (free_number (codes "event ") number (IsFree-text 10 (codes "event ") refl)) in
     IsFree-append 10 (front ++ codes " ") (answer_text answer) free (free_answer answer)
 
-free_guest : (number : ℕ) (guest : GuestReport) → IsFree 10 (guest_head number guest)
+pub free_guest : (number : ℕ) (guest : GuestReport) → IsFree 10 (guest_head number guest)
 free_guest number guest =
     let first = codes "guest " ++ decimal number in
     let second = first ++ codes " entries " ++ decimal (length guest.journal) in

@@ -10,6 +10,7 @@ mod texts;
 
 pub use law::{text_determines_journal, text_determines_journals};
 pub use report::{write_end, write_events, write_guest, write_head};
+pub use texts::is_reply_text;
 
 #[cfg(test)]
 mod tests;

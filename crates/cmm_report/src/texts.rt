@@ -1,4 +1,5 @@
 ghost use Rattle.std.specs.Prelude.{◌≡◌, ◌+◌, ◌≤◌, ◌++◌, length};
+ghost use Rattle.std.specs.Str.{bytes_eq};
 ghost use Rattle.cmm_report.specs.Texts.{turn_text, alone_text, refused_text, answer_text, flat_refusal_text, cause_text, reply_text};
 
 use crate::line::Line;
@@ -129,4 +130,13 @@ pub fn add_reply(line: &mut Line, reply: &Reply)
         Reply::Refused(refusal) => add_flat_refusal(line, *refusal),
         Reply::Fail(cause) => add_cause(line, *cause),
     }
+}
+
+/// Whether a text is that of a reply.
+pub fn is_reply_text(text: &[u8], reply: &Reply) -> bool
+    ensures { result ≡ bytes_eq text.now (reply_text reply.now) }
+{
+    let mut line = Line::new();
+    add_reply(&mut line, reply);
+    text == line.as_slice()
 }
