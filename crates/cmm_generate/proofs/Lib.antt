@@ -1,0 +1,5 @@
+mod Spelled
+mod ReadsBack
+mod PutInTurn
+mod Loops
+mod InRange

@@ -1,0 +1,8 @@
+use Rattle.std.proofs.Common.{◌∙◌, ap}
+use Rattle.serde_json.specs.Data.{object}
+use Rattle.serde_json.proofs.Views.{view-Object}
+use Rattle.cmm_generate.proofs.PutInTurn.{scenario_value}
+use Rattle.cmm_generate.proofs.trees.scenario_value.Goals as goal
+
+pub returns : goal.returns
+returns c = view-Object _ ∙ ap object c.in_ok-members.ensures ∙ scenario_value c.args.plan.now

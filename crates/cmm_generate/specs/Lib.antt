@@ -1,0 +1,5 @@
+pub mod Draws
+pub mod Generated
+pub mod Text
+pub mod Puts
+pub mod Writes
