@@ -1,0 +1,4 @@
+pub mod Looking
+pub mod Moving
+pub mod Seats
+pub mod Passing
