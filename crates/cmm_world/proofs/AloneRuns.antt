@@ -35,7 +35,7 @@ use Rattle.cmm_world.specs.Exec.{exec}
 use Rattle.cmm_world.specs.Steps.{NoWrongDiscards, NoStepDiscardsWrongly, IsStepByStep, turns_taken, step_answers}
 use Rattle.cmm_world.specs.Reached.{HasReached}
 use Rattle.cmm_world.proofs.Unbound.{halfway}
-use Rattle.cmm_world.proofs.TurnRuns.{AfterTurn, HasReached-none, HasReached-then, after_turn, with_turn, served_same}
+use Rattle.cmm_world.proofs.TurnRuns.{AfterTurn, Grows, Grows-same, Grows-trans, HasReached-none, HasReached-then, after_turn, with_turn, served_same}
 
 -- so many turns of a processor, as events
 abbrev pub turns_of : (guest cpu count : ℕ) → List Event
@@ -55,6 +55,7 @@ pub record AfterTurns (left turns : ℕ) (w : WorldState) (guest cpu : ℕ) (h :
   pub steps : turns_after left turns w guest cpu ≡ (a, with_turn w guest h k e)
   pub world : IsWorld (with_turn w guest h k e)
   pub reached : HasReached w (with_turn w guest h k e)
+  pub grows : Grows w (with_turn w guest h k e)
   pub plan : h.plan ≡ (guest_at w guest).plan
   pub stops : (a ≡ AloneIdle) ⊎ Stops turns w guest cpu a (with_turn w guest h k e)
 
@@ -87,6 +88,7 @@ after_none turns w guest cpu h a k e world is_guest idle is_host is_disk =
       steps = λ i. (sym idle i, sym same i);
       world = subst IsWorld (sym same) world;
       reached = subst (HasReached w) (sym same) (HasReached-none w w (λ guest. refl));
+      grows = subst (Grows w) (sym same) (Grows-same w w (λ guest. refl));
       plan = ap (λ (g : GuestState). g.plan) is_guest;
       stops = inl idle;
     }
@@ -102,6 +104,7 @@ after_stop left turns w guest cpu h r a k e on answer next =
       steps = ap (λ (q : Turn × WorldState). turns_on (λ x. turns_after left (turns + 1) x guest cpu) turns q.0 q.1) next.step ∙ on _ x ∙ (λ i. (sym answer i, x));
       world = next.world;
       reached = next.reached;
+      grows = next.grows;
       plan = next.plan;
       stops = inr (record {
         moved = zero;
@@ -133,7 +136,8 @@ after_more left turns w guest cpu g h a j k d e below next rest =
     record {
       steps = ap (λ (q : Turn × WorldState). turns_on (λ x. turns_after left (turns + 1) x guest cpu) turns q.0 q.1) next.step ∙ rest.steps ∙ (λ i. (a, same i));
       world = subst IsWorld same rest.world;
-      reached = HasReached-then w m (with_turn w guest h k e) (next.moved refl) (subst (HasReached m) same rest.reached);
+      reached = HasReached-then w m (with_turn w guest h k e) (next.moved refl) (subst (Grows m) same rest.grows) (subst (HasReached m) same rest.reached);
+      grows = Grows-trans w m (with_turn w guest h k e) next.grows (subst (Grows m) same rest.grows);
       plan = rest.plan ∙ ap (λ (g : GuestState). g.plan) (get_or-set_same w.guests guest g (opening_guest no_plan) below) ∙ next.plan;
       stops = elim rest.stops [
         | inl idle ↦ inl idle

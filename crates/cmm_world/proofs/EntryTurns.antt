@@ -1,11 +1,11 @@
 -- A turn that enters a load or a store as neither refused nor failed went through an entry that shows the page.
-use Rattle.std.specs.Prelude.{◌≡◌, ℕ, ◌/◌, ◌%◌, ◌++◌, List, [], ◌∷◌, length, Bool, true, false, ◌&&◌, not, if◌then◌else◌, Option, Some, None, Result, Ok, Err}
+use Rattle.std.specs.Prelude.{◌≡◌, ℕ, nat_lt, ◌+◌, ◌/◌, ◌%◌, ◌++◌, List, [], ◌∷◌, length, Bool, true, false, ◌&&◌, not, if◌then◌else◌, Option, Some, None, Result, Ok, Err}
 use Rattle.std.proofs.Common.{refl, sym, ap, subst, arith, ◌∙◌, length-append}
 use Rattle.std.proofs.lemmas.List.{append_cancel_left}
 use Rattle.cmm_types.specs.declared.page.TheConstants.{PAGE}
 use Rattle.cmm_types.specs.declared.page.Tag.{Tag}
 use Rattle.cmm_types.specs.declared.command.Op.{Op}
-use Rattle.cmm_types.specs.declared.command.Op.TheVariants.{Load, Store}
+use Rattle.cmm_types.specs.declared.command.Op.TheVariants.{Unmap, Load, Store}
 use Rattle.cmm_types.specs.declared.command.Entry.{Entry}
 use Rattle.cmm_types.specs.declared.command.FlatRefusal.{FlatRefusal}
 use Rattle.cmm_types.specs.declared.command.Reply.{Reply}
@@ -21,21 +21,28 @@ use Rattle.cmm_storage.specs.Views.{page_called as named_page}
 use Rattle.guest_pages.specs.PagesView.{info_at}
 use Rattle.guest_cache.specs.CacheView.{page_of}
 use Rattle.guest_maps.specs.declared.slot.Pte.{Pte}
-use Rattle.guest_maps.specs.MapsView.{find_slot, entry_at, tag_at}
+use Rattle.guest_maps.specs.declared.slot.Shown.{Shown}
+use Rattle.guest_maps.specs.declared.slot.Shown.TheVariants.{File as OfFile, Anon as OfItsOwn}
+use Rattle.guest_maps.specs.declared.slot.Slot.{Slot}
+use Rattle.guest_maps.specs.MapsView.{find_slot, slot_at, entry_at, tag_at, freed_slot}
 use Rattle.host_plain.specs.HostState.{HostState, HostStep, Leaves}
 use Rattle.guest_rules.specs.declared.parts.Parts.{Parts}
 use Rattle.guest_rules.specs.declared.processor.Phase.{Phase}
-use Rattle.guest_rules.specs.declared.processor.Phase.TheVariants.{Start, Fill, Sync as AtSync, SyncWrite}
+use Rattle.guest_rules.specs.declared.processor.Phase.TheVariants.{Start, Fill, Room as AtRoom, Sync as AtSync, SyncWrite, Teardown}
 use Rattle.guest_rules.specs.declared.outcome.Filled.{Filled}
 use Rattle.guest_rules.specs.declared.outcome.Filled.TheVariants.{Done as FilledDone, Again as FilledAgain, Fail as FilledFail}
 use Rattle.guest_rules.specs.declared.outcome.Missed.{Missed}
 use Rattle.guest_rules.specs.declared.outcome.Missed.TheVariants.{Gone as MissedGone, Again as MissedAgain, Fail as MissedFail}
+use Rattle.guest_rules.specs.declared.outcome.Room.{Room}
+use Rattle.guest_rules.specs.declared.outcome.Room.TheVariants.{Freed, Locked, Waits as RoomWaits, NoPage, Again as RoomAgain}
 use Rattle.guest_rules.specs.declared.outcome.Placed.{Placed}
 use Rattle.guest_rules.specs.declared.outcome.Placed.TheVariants.{Done as PlaceDone, Gone as PlaceGone, Again as PlaceAgain}
-use Rattle.guest_rules.specs.GuestState.{GuestState, processor_at, with_parts, entered}
-use Rattle.guest_rules.specs.Rows.{fill, resolve, load_page, store_through}
+use Rattle.guest_rules.specs.GuestState.{GuestState, processor_at, with_parts, with_phase, entered, next_command}
+use Rattle.guest_rules.specs.Rows.{fill, resolve, clear_entry, load_page, store_through}
+use Rattle.guest_rules.specs.Syncs.{write_back}
+use Rattle.guest_rules.specs.MakeRoom.{make_room}
 use Rattle.guest_rules.specs.Turns.{turn, turn_on, turn_in, start_turn, start_refused, start_accepted, start_mapped, start_entry, start_at, start_found, start_free, start_locked}
-use Rattle.guest_rules.specs.Turns.{begin_turn, begin_taken, use_turn, resolve_turn, resolve_in, resolve_next, hit_turn, read_next, done_next, missed_next, fill_turn, fill_next, sync_turn, write_back_turn, refusal_in}
+use Rattle.guest_rules.specs.Turns.{begin_turn, begin_taken, use_turn, resolve_turn, resolve_in, resolve_next, hit_turn, read_next, done_next, missed_next, fill_turn, fill_next, room_turn, room_next, page_out_turn, sync_turn, write_back_turn, torn_past, torn_next, teardown_entry, teardown_shown, teardown_in, teardown_turn, refusal_in}
 use Rattle.cmm_world.proofs.Unbound.{halfway}
 use Rattle.cmm_world.proofs.Reaching.{IsReached, Through, load-through, store-through}
 
@@ -116,6 +123,28 @@ module _ {S D : Type 0} (ss : S → StorageCall → S → Type 0) (ds : D → Di
       let x = halfway ss ds (fill g.parts page) (λ (went : Parts × Filled). fill_next g cpu op went.0 went.1) s d (h, Finished) t e run in
       fill_next-never g cpu op x.answer.0 x.answer.1 x.storage x.disk h t e entry gets x.second
 
+  page_out_turn-never : (g : GuestState) (cpu : ℕ) (op : Op) (page : ℕ) (s : S) (d : D) (h : GuestState) (t : S) (e : D) (entry : Entry) → Gets g h entry
+      → Ends g (page_out_turn g cpu op page) s d h t e → ⊥
+  unfolding page_out_turn
+  page_out_turn-never g cpu op page s d h t e entry gets run =
+      let x = halfway ss ds (write_back g.parts page) (λ (went : Parts × Filled). fill_next g cpu op went.0 went.1) s d (h, Finished) t e run in
+      fill_next-never g cpu op x.answer.0 x.answer.1 x.storage x.disk h t e entry gets x.second
+
+  room_next-never : (g : GuestState) (cpu : ℕ) (op : Op) (parts : Parts) (went : Room) (s : S) (d : D) (h : GuestState) (t : S) (e : D) (entry : Entry) → Gets g h entry
+      → Ends g (room_next g cpu op parts went) s d h t e → ⊥
+  room_next-never g cpu op parts Freed s d h t e entry gets (ea, es, ed) = not_moved _ h ea
+  room_next-never g cpu op parts (Locked page) s d h t e entry gets (ea, es, ed) = not_moved _ h ea
+  room_next-never g cpu op parts (RoomWaits page owner) s d h t e entry gets (ea, es, ed) = not_waiting _ h page owner ea
+  room_next-never g cpu op parts (NoPage pinned unslotted) s d h t e entry gets (ea, es, ed) = not_entered g h (with_parts g parts) cpu op _ entry refl (λ bad. bad) gets ea
+  room_next-never g cpu op parts (RoomAgain why) s d h t e entry gets (ea, es, ed) = not_again _ h why ea
+
+  room_turn-never : (g : GuestState) (cpu : ℕ) (op : Op) (s : S) (d : D) (h : GuestState) (t : S) (e : D) (entry : Entry) → Gets g h entry
+      → Ends g (room_turn g cpu op) s d h t e → ⊥
+  unfolding room_turn
+  room_turn-never g cpu op s d h t e entry gets run =
+      let x = halfway ss ds (make_room g.parts cpu) (λ (went : Parts × Room). room_next g cpu op went.0 went.1) s d (h, Finished) t e run in
+      room_next-never g cpu op x.answer.0 x.answer.1 x.storage x.disk h t e entry gets x.second
+
   resolve_next-never : (g : GuestState) (parts : Parts) (went : Placed) (s : S) (d : D) (h : GuestState) (t : S) (e : D) → Ends g (resolve_next g parts went) s d h t e → ⊥
   resolve_next-never g parts PlaceDone s d h t e (ea, es, ed) = not_moved _ h ea
   resolve_next-never g parts PlaceGone s d h t e (ea, es, ed) = not_moved _ h ea
@@ -136,8 +165,54 @@ module _ {S D : Type 0} (ss : S → StorageCall → S → Type 0) (ds : D → Di
   unfolding begin_turn
   begin_turn-never g cpu tag page s d h t e (r, m, now, rest) = begin_taken-never g cpu tag page r m d h t e rest
 
+  -- a teardown that ends has its entry already
+  torn_past-never : (g : GuestState) (cpu slot index count : ℕ) (h : GuestState) (entry : Entry) → Gets g h entry → ◌≡◌ {A = GuestState × Turn} (h, Finished) (torn_past g cpu slot index count) → ⊥
+  unfolding next_command
+  torn_past-never g cpu slot index count h entry gets same = of (nat_lt (index + 1) count) same
+    where
+      of : (more : Bool)
+          → ◌≡◌ {A = GuestState × Turn} (h, Finished) (if more then (with_phase g cpu (Teardown slot (index + 1)), Moved) else (
+            next_command (with_parts g (record g.parts { maps = freed_slot g.parts.maps slot })) cpu,
+            Finished,
+          ))
+          → ⊥
+      of true is = not_moved _ h is
+      of false is = one_more g.journal entry (sym (ap (λ (q : GuestState × Turn). q.0.journal) is) ∙ gets.got)
+
+  torn_next-never : (g : GuestState) (cpu slot index count : ℕ) (parts : Parts) (went : Placed) (s : S) (d : D) (h : GuestState) (t : S) (e : D) (entry : Entry) → Gets g h entry
+      → Ends g (torn_next g cpu slot index count parts went) s d h t e → ⊥
+  torn_next-never g cpu slot index count parts PlaceDone s d h t e entry gets (ea, es, ed) =
+      torn_past-never (with_parts g parts) cpu slot index count h entry (record { got = gets.got; answer = gets.answer }) ea
+  torn_next-never g cpu slot index count parts PlaceGone s d h t e entry gets (ea, es, ed) =
+      torn_past-never (with_parts g parts) cpu slot index count h entry (record { got = gets.got; answer = gets.answer }) ea
+  torn_next-never g cpu slot index count parts (PlaceAgain why) s d h t e entry gets (ea, es, ed) = not_again _ h why ea
+
+  teardown_entry-never : (g : GuestState) (cpu slot index count : ℕ) (pte : Option Pte) (s : S) (d : D) (h : GuestState) (t : S) (e : D) (entry : Entry) → Gets g h entry
+      → Ends g (teardown_entry g cpu slot index count pte) s d h t e → ⊥
+  teardown_entry-never g cpu slot index count None s d h t e entry gets (ea, es, ed) = torn_past-never g cpu slot index count h entry gets ea
+  teardown_entry-never g cpu slot index count (Some pte) s d h t e entry gets run =
+      let x = halfway ss ds (clear_entry g.parts slot index pte) (λ (went : Parts × Placed). torn_next g cpu slot index count went.0 went.1) s d (h, Finished) t e run in
+      torn_next-never g cpu slot index count x.answer.0 x.answer.1 x.storage x.disk h t e entry gets x.second
+
+  teardown_shown-never : (g : GuestState) (cpu slot index count : ℕ) (shown : Shown) (s : S) (d : D) (h : GuestState) (t : S) (e : D) (entry : Entry) → Gets g h entry
+      → Ends g (teardown_shown g cpu slot index count shown) s d h t e → ⊥
+  teardown_shown-never g cpu slot index count (OfFile file first writable) s d h t e entry gets run =
+      teardown_entry-never g cpu slot index count (entry_at g.parts.maps slot index) s d h t e entry gets run
+  teardown_shown-never g cpu slot index count OfItsOwn s d h t e entry gets (ea, es, ed) = not_idle _ h ea
+
+  teardown_in-never : (g : GuestState) (cpu slot index : ℕ) (mapping : Option Slot) (s : S) (d : D) (h : GuestState) (t : S) (e : D) (entry : Entry) → Gets g h entry
+      → Ends g (teardown_in g cpu slot index mapping) s d h t e → ⊥
+  teardown_in-never g cpu slot index None s d h t e entry gets (ea, es, ed) = not_idle _ h ea
+  teardown_in-never g cpu slot index (Some mapping) s d h t e entry gets run = teardown_shown-never g cpu slot index mapping.count mapping.shown s d h t e entry gets run
+
+  teardown_turn-never : (g : GuestState) (cpu slot index : ℕ) (s : S) (d : D) (h : GuestState) (t : S) (e : D) (entry : Entry) → Gets g h entry
+      → Ends g (teardown_turn g cpu slot index) s d h t e → ⊥
+  unfolding teardown_turn
+  teardown_turn-never g cpu slot index s d h t e entry gets run = teardown_in-never g cpu slot index (slot_at g.parts.maps slot) s d h t e entry gets run
+
   -- what a load and a store at an offset of a mapping share
   pub record IsMapped (g : GuestState) (cpu : ℕ) (op : Op) (number off : ℕ) (writes : Bool) : Type 0 where
+    pub no_unmap : (other : ℕ) → op ≡ Unmap other → ⊥
     pub accepted : start_accepted g cpu op ≡ start_mapped g cpu op writes off (find_slot g.parts.maps (process_of g.plan cpu) number)
     pub uses : (page : ℕ) → use_turn g cpu op page ≡ resolve_turn g cpu page number off writes
     pub syncs : (index : ℕ) → ◌≡◌ {A = Program (GuestState × Turn)} (sync_turn g cpu op index) (done (g, Idle))
@@ -172,6 +247,7 @@ module _ {S D : Type 0} (ss : S → StorageCall → S → Type 0) (ds : D → Di
   pub load_mapped : (g : GuestState) (cpu number off len : ℕ) → IsMapped g cpu (Load number off len) number off false
   unfolding use_turn sync_turn write_back_turn hit_turn
   load_mapped g cpu number off len = record {
+    no_unmap = λ other is. let bad : Load number off len ≡ Unmap other = is in cc;
     accepted = refl;
     uses = λ page. refl;
     syncs = λ index. refl;
@@ -188,6 +264,7 @@ module _ {S D : Type 0} (ss : S → StorageCall → S → Type 0) (ds : D → Di
   pub store_mapped : (g : GuestState) (cpu number off : ℕ) (bytes : List ℕ) → IsMapped g cpu (Store number off bytes) number off true
   unfolding use_turn sync_turn write_back_turn hit_turn
   store_mapped g cpu number off bytes = record {
+    no_unmap = λ other is. let bad : Store number off bytes ≡ Unmap other = is in cc;
     accepted = refl;
     uses = λ page. refl;
     syncs = λ index. refl;
@@ -211,7 +288,7 @@ module _ {S D : Type 0} (ss : S → StorageCall → S → Type 0) (ds : D → Di
 
   free_never : (g : GuestState) (cpu : ℕ) (op : Op) (tag : Tag) (free : List ℕ) (s : S) (d : D) (h : GuestState) (t : S) (e : D) (entry : Entry) → Gets g h entry
       → Ends g (start_free g cpu op tag free) s d h t e → ⊥
-  free_never g cpu op tag [] s d h t e entry gets (ea, es, ed) = not_entered g h g cpu op _ entry refl (λ bad. bad) gets ea
+  free_never g cpu op tag [] s d h t e entry gets run = room_turn-never g cpu op s d h t e entry gets run
   free_never g cpu op tag (page ∷ rest) s d h t e entry gets run = begin_turn-never g cpu tag page s d h t e run
 
   found_never : (g : GuestState) (cpu : ℕ) (op : Op) (number off : ℕ) (writes : Bool) (tag : Tag) (found : Option ℕ) (s : S) (d : D) (h : GuestState) (t : S) (e : D) (entry : Entry) → Gets g h entry
@@ -266,10 +343,12 @@ module _ {S D : Type 0} (ss : S → StorageCall → S → Type 0) (ds : D → Di
   phase_located g cpu op number off writes Start s d h t e entry gets is run =
       refused_located g cpu op number off writes (refusal_in g (process_of g.plan cpu) op) s d h t e entry gets is run
   phase_located g cpu op number off writes (Fill page) s d h t e entry gets is run = absurd (fill_turn-never g cpu op page s d h t e entry gets run)
+  phase_located g cpu op number off writes (AtRoom page) s d h t e entry gets is run = absurd (page_out_turn-never g cpu op page s d h t e entry gets run)
   phase_located g cpu op number off writes (AtSync index) s d h t e entry gets is run =
       absurd (not_idle g h (let x = subst (λ p. Ends g p s d h t e) (is.syncs index) run in x.0))
   phase_located g cpu op number off writes (SyncWrite index page) s d h t e entry gets is run =
       absurd (not_idle g h (let x = subst (λ p. Ends g p s d h t e) (is.writes_back index page) run in x.0))
+  phase_located g cpu op number off writes (Teardown slot index) s d h t e entry gets is run = absurd (teardown_turn-never g cpu slot index s d h t e entry gets run)
 
   -- the turn of a processor with this command that entered its answer
   pub turn_located : (g : GuestState) (cpu : ℕ) (op : Op) (number off : ℕ) (writes : Bool) (s : S) (d : D) (h : GuestState) (t : S) (e : D) (entry : Entry) → Gets g h entry

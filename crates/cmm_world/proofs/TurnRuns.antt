@@ -2,9 +2,10 @@
 use Rattle.std.specs.Prelude.{◌≡◌, ◌⊎◌, ◌<◌, ◌++◌, ℕ, List, [], ◌∷◌, length, drop, slice_set, true, false, Bool, Some}
 use Rattle.std.proofs.Common.{refl, sym, ap, inl, inr, arith, subst, ◌∙◌, get_or-set_same, get_or-set_other, get_or-take, get_or-drop}
 use Rattle.std.proofs.lemmas.Bool.{cases_eq}
+use Rattle.std.proofs.lemmas.List.{append_cancel_left, append_assoc, append-nil}
 use Rattle.cmm_types.specs.declared.command.Entry.{Entry}
 use Rattle.cmm_types.specs.declared.command.Op.{Op}
-use Rattle.cmm_types.specs.declared.command.Op.TheVariants.{Load, Store}
+use Rattle.cmm_types.specs.declared.command.Op.TheVariants.{Unmap, Load, Store}
 use Rattle.cmm_types.specs.declared.command.Reply.TheVariants.{Done, Bytes}
 use Rattle.cmm_types.specs.declared.plan.GuestPlan.{GuestPlan}
 use Rattle.cmm_types.specs.declared.turn.Turn.{Turn}
@@ -75,6 +76,23 @@ discards_moves w k keeps i page lt below lost = may_discard _ _ (keeps.pages i p
 abbrev pub SameJournals : WorldState → WorldState → Type 0
 SameJournals w x = (guest : ℕ) → (guest_at x guest).journal ≡ (guest_at w guest).journal
 
+-- at most the answers of unmaps were entered
+abbrev pub EntersUnmaps : WorldState → WorldState → Type 0
+EntersUnmaps w x = (guest : ℕ) → ((guest_at x guest).journal ≡ (guest_at w guest).journal) ⊎ ((entry : Entry) × (number : ℕ) × (entry.op ≡ Unmap number) × Enters w x guest entry)
+
+-- each journal has what it had, and then more
+abbrev pub Grows : WorldState → WorldState → Type 0
+Grows w x = (guest : ℕ) → (more : List Entry) × ((guest_at x guest).journal ≡ (guest_at w guest).journal ++ more)
+
+pub Grows-same : (w x : WorldState) → SameJournals w x → Grows w x
+Grows-same w x same guest = ([], same guest ∙ sym (append-nil _))
+
+pub Grows-trans : (w m x : WorldState) → Grows w m → Grows m x → Grows w x
+Grows-trans w m x first next guest =
+    let a = first guest in
+    let b = next guest in
+    (a.0 ++ b.0, b.1 ∙ ap (λ (xs : List Entry). xs ++ b.0) a.1 ∙ append_assoc (guest_at w guest).journal a.0 b.0)
+
 -- where no journal changed, nothing was entered
 pub HasReached-none : (w x : WorldState) → SameJournals w x → HasReached w x
 HasReached-none w x same = record {
@@ -82,16 +100,28 @@ HasReached-none w x same = record {
   stores = λ guest cpu k number off bytes got. absurd (one_more (guest_at w guest).journal _ (sym (same guest) ∙ got));
 }
 
-enters_then : (w m x : WorldState) (guest : ℕ) (entry : Entry) → SameJournals w m → Enters w x guest entry → Enters m x guest entry
-enters_then w m x guest entry same got = got ∙ ap (λ (xs : List Entry). xs ++ entry ∷ []) (sym (same guest))
+-- the entry behind a list, and the first of those behind it
+first_behind : (xs : List Entry) (x y : Entry) (more : List Entry) → xs ++ x ∷ [] ≡ (xs ++ y ∷ []) ++ more → x ≡ y
+first_behind xs x y more same = let rest : x ∷ [] ≡ y ∷ more = append_cancel_left xs (x ∷ []) (y ∷ more) (same ∙ append_assoc xs (y ∷ []) more) in cc
 
--- turns that entered nothing, and then others
-pub HasReached-then : (w m x : WorldState) → SameJournals w m → HasReached m x → HasReached w x
-HasReached-then w m x same later = record {
+enters_then : (w m x : WorldState) (guest : ℕ) (entry : Entry) → EntersUnmaps w m → Grows m x → ((number : ℕ) → entry.op ≡ Unmap number → ⊥) → Enters w x guest entry → Enters m x guest entry
+enters_then w m x guest entry moved grows no_unmap got = elim (moved guest) [
+  | inl same ↦ got ∙ ap (λ (xs : List Entry). xs ++ entry ∷ []) (sym same)
+  | inr u ↦
+      let more = grows guest in
+      let its : entry ≡ u.0 = first_behind (guest_at w guest).journal entry u.0 more.0 (sym got ∙ more.1 ∙ ap (λ (xs : List Entry). xs ++ more.0) u.3) in
+      absurd (no_unmap u.1 (ap (λ (q : Entry). q.op) its ∙ u.2))
+]
+
+-- turns that entered at most the answers of unmaps, and then others
+pub HasReached-then : (w m x : WorldState) → EntersUnmaps w m → Grows m x → HasReached m x → HasReached w x
+HasReached-then w m x moved grows later = record {
   loads = λ guest cpu k number off len bytes got.
-      later.loads guest cpu k number off len bytes (enters_then w m x guest (record { cpu = cpu; k = k; op = Load number off len; reply = Bytes bytes }) same got);
+      later.loads guest cpu k number off len bytes
+      (enters_then w m x guest (record { cpu = cpu; k = k; op = Load number off len; reply = Bytes bytes }) moved grows (λ other is. let bad : Load number off len ≡ Unmap other = is in cc) got);
   stores = λ guest cpu k number off bytes got.
-      later.stores guest cpu k number off bytes (enters_then w m x guest (record { cpu = cpu; k = k; op = Store number off bytes; reply = Done }) same got);
+      later.stores guest cpu k number off bytes
+      (enters_then w m x guest (record { cpu = cpu; k = k; op = Store number off bytes; reply = Done }) moved grows (λ other is. let bad : Store number off bytes ≡ Unmap other = is in cc) got);
 }
 
 -- the word of the served guest's page stands in the list of its words
@@ -115,27 +145,53 @@ was_reached w guest process number off writes serves x =
       changed = λ is_written. ap (λ (q : Fields). q.changed) word ∙ x.reached.changed is_written;
     }
 
--- a turn that entered something finished, and this was the processor's command
+-- a turn that entered something finished or answered an unmap, and this was the processor's command
 pub record Entered (g : GuestState) (cpu : ℕ) (r : Turn) (entry : Entry) : Type 0 where
-  pub finished : r ≡ Finished
+  pub finished : (r ≡ Finished) ⊎ ((number : ℕ) × (entry.op ≡ Unmap number))
   pub command : command_of g.plan cpu (processor_at g cpu).place ≡ Some entry.op
   pub its : entry.cpu ≡ cpu
 
-entered_by : (g h : GuestState) (v w : StorageView) (d e : DiskView) (cpu : ℕ) (r : Turn) (entry : Entry) → TurnCause g v d cpu r h w e → h.journal ≡ g.journal ++ entry ∷ [] → Entered g cpu r entry
-entered_by g h v w d e cpu Moved entry cause got = absurd (one_more g.journal entry (sym cause.answer.0.journal ∙ got))
-entered_by g h v w d e cpu Finished entry cause got =
-    let same = same_entry g.journal _ entry (sym cause.answer.entry ∙ got) in
-    record {
-      finished = refl;
-      command = cause.answer.command ∙ ap (λ (x : Entry). Some x.op) same;
-      its = sym (ap (λ (x : Entry). x.cpu) same);
-    }
-entered_by g h v w d e cpu (Waits page owner) entry cause got = absurd (one_more g.journal entry (sym (ap (λ (q : GuestState). q.journal) cause.answer.0) ∙ got))
-entered_by g h v w d e cpu (Again why) entry cause got = elim cause.answer.0.tables [
-  | inl same ↦ absurd (one_more g.journal entry (sym (ap (λ (q : GuestState). q.journal) same) ∙ got))
-  | inr changed ↦ absurd (one_more g.journal entry (sym (ap (λ (q : GuestState). q.journal) changed.1) ∙ got))
+-- at most one entry is new, and an unmap's where the turn moved
+pub data HasEntered (g h : GuestState) (cpu : ℕ) (r : Turn) : Type 0 where
+  nothing : h.journal ≡ g.journal → HasEntered g h cpu r
+  one : (entry : Entry) → Entered g cpu r entry → (r ≡ Moved → (number : ℕ) × (entry.op ≡ Unmap number)) → h.journal ≡ g.journal ++ entry ∷ [] → HasEntered g h cpu r
+
+has_entered : (g h : GuestState) (v w : StorageView) (d e : DiskView) (cpu : ℕ) (r : Turn) → TurnCause g v d cpu r h w e → HasEntered g h cpu r
+has_entered g h v w d e cpu Moved cause = elim cause.answer.0.journal [
+  | inl same ↦ nothing same
+  | inr u ↦
+      let its : Entry = record { cpu = cpu; k = (processor_at g cpu).place; op = Unmap u.number; reply = Done } in
+      one its (record { finished = inr (u.number, refl); command = u.command; its = refl }) (λ moved. (u.number, refl)) u.entry
 ]
-entered_by g h v w d e cpu Idle entry cause got = absurd (one_more g.journal entry (sym (ap (λ (q : GuestState). q.journal) cause.answer.0) ∙ got))
+has_entered g h v w d e cpu Finished cause = elim cause.answer [
+  | inl f ↦
+      let its : Entry = record { cpu = cpu; k = (processor_at g cpu).place; op = f.op; reply = f.reply } in
+      one its (record { finished = inl refl; command = f.command; its = refl }) (λ moved. let bad : Finished ≡ Moved = moved in absurd cc) f.entry
+  | inr torn ↦ nothing torn.journal
+]
+has_entered g h v w d e cpu (Waits page owner) cause = nothing (ap (λ (q : GuestState). q.journal) cause.answer.0)
+has_entered g h v w d e cpu (Again why) cause = elim cause.answer.0.tables [
+  | inl same ↦ nothing (ap (λ (q : GuestState). q.journal) same)
+  | inr changed ↦ nothing (ap (λ (q : GuestState). q.journal) changed.1)
+]
+has_entered g h v w d e cpu Idle cause = nothing (ap (λ (q : GuestState). q.journal) cause.answer.0)
+
+entered_by : (g h : GuestState) (cpu : ℕ) (r : Turn) (entry : Entry) → HasEntered g h cpu r → h.journal ≡ g.journal ++ entry ∷ [] → Entered g cpu r entry
+entered_by g h cpu r entry (nothing same) got = absurd (one_more g.journal entry (sym same ∙ got))
+entered_by g h cpu r entry (one its entered moved journal) got = subst (Entered g cpu r) (same_entry g.journal its entry (sym journal ∙ got)) entered
+
+-- a command that isn't an unmap is entered where it finishes
+finishes : (g : GuestState) (cpu : ℕ) (r : Turn) (entry : Entry) → Entered g cpu r entry → ((number : ℕ) → entry.op ≡ Unmap number → ⊥) → r ≡ Finished
+finishes g cpu r entry entered no_unmap = elim entered.finished [ inl finished ↦ finished | inr u ↦ absurd (no_unmap u.0 u.1) ]
+
+grown : (g h : GuestState) (cpu : ℕ) (r : Turn) → HasEntered g h cpu r → (more : List Entry) × (h.journal ≡ g.journal ++ more)
+grown g h cpu r (nothing same) = ([], same ∙ sym (append-nil _))
+grown g h cpu r (one its entered moved journal) = (its ∷ [], journal)
+
+unmap_at_most : (g h : GuestState) (cpu : ℕ) → HasEntered g h cpu Moved
+    → (h.journal ≡ g.journal) ⊎ ((entry : Entry) × (number : ℕ) × (entry.op ≡ Unmap number) × (h.journal ≡ g.journal ++ entry ∷ []))
+unmap_at_most g h cpu (nothing same) = inl same
+unmap_at_most g h cpu (one its entered moved journal) = let u = moved refl in inr (its, u.0, u.1, journal)
 
 -- what a guest's turn leaves of the world
 pub record AfterTurn (w : WorldState) (guest cpu : ℕ) (h : GuestState) (r : Turn) (k : HostState) (e : DiskState) : Type 0 where
@@ -143,7 +199,8 @@ pub record AfterTurn (w : WorldState) (guest cpu : ℕ) (h : GuestState) (r : Tu
   pub world : IsWorld (with_turn w guest h k e)
   pub discards : NoWrongDiscards w (with_turn w guest h k e)
   pub reached : HasReached w (with_turn w guest h k e)
-  pub moved : r ≡ Moved → SameJournals w (with_turn w guest h k e)
+  pub moved : r ≡ Moved → EntersUnmaps w (with_turn w guest h k e)
+  pub grows : Grows w (with_turn w guest h k e)
   pub plan : h.plan ≡ (guest_at w guest).plan
   pub serves : k.guest ≡ guest
 
@@ -174,7 +231,7 @@ module _ {S D : Type 0} (ss : S → StorageCall → S → Type 0) (ds : D → Di
       let here : guest_at x guest ≡ h = get_or-set_same w.guests guest h (opening_guest no_plan) below in
       let located : IsLocated h.parts (process_of g.plan cpu) number off writes (sv t) =
       turn_located ss ds sv sm sl g cpu op number off writes s d h t e entry (record { got = got; answer = answer }) mapped (entered.command ∙ ap (λ (o : Op). Some o) is_op)
-      (subst (λ q. Does ss ds (turn g cpu) s d (h, q) t e) entered.finished run) in
+      (subst (λ q. Does ss ds (turn g cpu) s d (h, q) t e) (finishes g cpu r entry entered (λ other is. mapped.no_unmap other (sym is_op ∙ is))) run) in
       let process : process_of g.plan cpu ≡ process_of (guest_at x guest).plan entry.cpu =
       ap (λ (q : GuestPlan). process_of q cpu) (sym plan ∙ ap (λ (q : GuestState). q.plan) (sym here)) ∙ ap (process_of (guest_at x guest).plan) (sym entered.its) in
       subst (λ p. WasReached x guest p number off writes) process
@@ -194,8 +251,15 @@ module _ {S D : Type 0} (ss : S → StorageCall → S → Type 0) (ds : D → Di
           (store_mapped ss ds sv sm sl g cpu number off bytes) refl tt got;
     };
     moved = λ is_moved i. elim (cases_eq i guest) [
-      | inl same ↦ subst (λ q. (guest_at x q).journal ≡ (guest_at w q).journal) (sym same) (ap (λ (q : GuestState). q.journal) here ∙ (moved_cause is_moved).answer.0.journal)
-      | inr other ↦ ap (λ (q : GuestState). q.journal) (get_or-set_other w.guests guest i h (opening_guest no_plan) other)
+      | inl same ↦ subst (λ q. ((guest_at x q).journal ≡ (guest_at w q).journal) ⊎ ((entry : Entry) × (number : ℕ) × (entry.op ≡ Unmap number) × Enters w x q entry)) (sym same)
+          (subst (λ (q : GuestState). (q.journal ≡ g.journal) ⊎ ((entry : Entry) × (number : ℕ) × (entry.op ≡ Unmap number) × (q.journal ≡ g.journal ++ entry ∷ []))) (sym here)
+          (unmap_at_most g h cpu (subst (HasEntered g h cpu) is_moved entered)))
+      | inr other ↦ inl (ap (λ (q : GuestState). q.journal) (get_or-set_other w.guests guest i h (opening_guest no_plan) other))
+    ];
+    grows = λ i. elim (cases_eq i guest) [
+      | inl same ↦ subst (λ q. (more : List Entry) × ((guest_at x q).journal ≡ (guest_at w q).journal ++ more)) (sym same)
+          (subst (λ (q : GuestState). (more : List Entry) × (q.journal ≡ g.journal ++ more)) (sym here) (grown g h cpu r entered))
+      | inr other ↦ ([], ap (λ (q : GuestState). q.journal) (get_or-set_other w.guests guest i h (opening_guest no_plan) other) ∙ sym (append-nil _))
     ];
     plan = plan;
     serves = kept.serves;
@@ -237,14 +301,14 @@ module _ {S D : Type 0} (ss : S → StorageCall → S → Type 0) (ds : D → Di
       cause : TurnCause g (host_view (sv s)) (disk_view (dv d)) cpu r h (host_view (sv t)) (disk_view (dv e))
       cause = Causes-turn g cpu _ _ h r _ _ fit has_cpu ran
 
-      moved_cause : r ≡ Moved → TurnCause g (host_view (sv s)) (disk_view (dv d)) cpu Moved h (host_view (sv t)) (disk_view (dv e))
-      moved_cause is_moved = subst (λ q. TurnCause g (host_view (sv s)) (disk_view (dv d)) cpu q h (host_view (sv t)) (disk_view (dv e))) is_moved cause
+      entered : HasEntered g h cpu r
+      entered = has_entered g h _ _ _ _ cpu r cause
 
       mine : (entry : Entry) (op : Op) (number off : ℕ) (writes : Bool) → IsMapped ss ds sv sm sl g cpu op number off writes → entry.op ≡ op → IsAnswer entry.reply → Enters w x guest entry
           → WasReached x guest (process_of (guest_at x guest).plan entry.cpu) number off writes
       mine entry op number off writes mapped is_op answer got =
           let journal : h.journal ≡ g.journal ++ entry ∷ [] = sym (ap (λ (q : GuestState). q.journal) here) ∙ got in
-          turn_reached w guest cpu s d h r t e op number off writes entry below plan kept.serves (entered_by g h _ _ _ _ cpu r entry cause journal) is_op answer mapped run journal
+          turn_reached w guest cpu s d h r t e op number off writes entry below plan kept.serves (entered_by g h cpu r entry entered journal) is_op answer mapped run journal
 
       reached : (i : ℕ) (entry : Entry) (op : Op) (number off : ℕ) (writes : Bool) → IsMapped ss ds sv sm sl g cpu op number off writes → entry.op ≡ op → IsAnswer entry.reply → Enters w x i entry
           → WasReached x i (process_of (guest_at x i).plan entry.cpu) number off writes

@@ -1,9 +1,8 @@
-ghost use Rattle.std.specs.Prelude.{◌≤◌, ◌↔◌, All, IsTrue};
-ghost use Rattle.cmm_types.specs.InRange.{GuestInRange, ScenarioInRange};
+ghost use Rattle.std.specs.Prelude.{◌↔◌, All, IsTrue};
 ghost use Rattle.guest_rules.specs.Built.{IsBuiltOp, GuestIsBuilt};
 ghost use Rattle.cmm_world.specs.Built.{IsBuilt};
 
-use cmm_types::{CpuPlan, GuestPlan, Op, Scenario, file_pages};
+use cmm_types::{CpuPlan, GuestPlan, Op, Scenario};
 
 fn is_built_op(op: &Op) -> bool
     ensures { IsTrue result ↔ IsBuiltOp op.now }
@@ -13,11 +12,12 @@ fn is_built_op(op: &Op) -> bool
         | Op::Write { .. }
         | Op::Sync { .. }
         | Op::MapFile { .. }
+        | Op::Unmap { .. }
         | Op::Load { .. }
         | Op::Store { .. }
         | Op::Pin { .. }
         | Op::Unpin { .. } => true,
-        Op::MapAnon { .. } | Op::Unmap { .. } => false,
+        Op::MapAnon { .. } => false,
     }
 }
 
@@ -27,18 +27,14 @@ fn has_built_commands(cpu: &CpuPlan) -> bool
     cpu.commands.as_slice().iter().all(is_built_op)
 }
 
-#[tactic(auto, using(cmm_types::specs::Laws::RangeLaws::file_pages_bound))]
 fn is_built_guest(plan: &GuestPlan) -> bool
-    requires { GuestInRange plan.now }
     ensures { IsTrue result ↔ GuestIsBuilt plan.now }
 {
     plan.cpus.as_slice().iter().all(has_built_commands)
-        && file_pages(plan.files.as_slice()) <= plan.pages
 }
 
 /// Whether the world can play this plan by now.
 pub fn is_built(plan: &Scenario) -> bool
-    requires { ScenarioInRange plan.now }
     ensures { IsTrue result ↔ IsBuilt plan.now }
 {
     plan.guests.as_slice().iter().all(is_built_guest)

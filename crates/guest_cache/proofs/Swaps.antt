@@ -9,9 +9,9 @@ use Rattle.std.proofs.lemmas.Bool.{cases_eq, cases_lt}
 use Rattle.std.proofs.lemmas.Bool.Decides.{nat_tests}
 use Rattle.cmm_types.specs.declared.command.TheConstants.{MAX_MAPPING_PAGES}
 use Rattle.cmm_types.specs.declared.page.Tag.{Tag}
-use Rattle.cmm_types.specs.declared.page.Tag.TheVariants.{File, Anon}
+use Rattle.cmm_types.specs.declared.page.Tag.TheVariants.{Anon}
 use Rattle.guest_cache.specs.CacheView.{holds_page}
-use Rattle.guest_cache.specs.Laws.CacheLaws.{slot_exact}
+use Rattle.guest_cache.specs.Laws.CacheLaws.{slot_exact, holds-itself, holds-exact}
 use Rattle.guest_cache.specs.SwapTable.{IsSwapIndex}
 
 -- ---- the first place that passes a test
@@ -44,20 +44,6 @@ position-set p xs i y d same =
 
 -- ---- the swap slot of a page
 
-holds-itself : (slot index : ℕ) → holds_page slot index (Some (Anon slot index)) ≡ true
-holds-itself slot index = grind (arith, nat_tests)
-
-holds-is : (slot index other at : ℕ) → holds_page slot index (Some (Anon other at)) ≡ true → (other ≡ slot) × (at ≡ index)
-holds-is slot index other at e = (grind (arith, nat_tests), grind (arith, nat_tests))
-
-same_page : (slot index other at : ℕ) (o : Option Tag) → holds_page slot index o ≡ true → holds_page other at o ≡ true → (other ≡ slot) × (at ≡ index)
-same_page slot index other at None e f = let bad : false ≡ true = e in absurd cc
-same_page slot index other at (Some (File file page)) e f = let bad : false ≡ true = e in absurd cc
-same_page slot index other at (Some (Anon s i)) e f =
-    let a = holds-is slot index s i e in
-    let b = holds-is other at s i f in
-    (sym b.0 ∙ a.0, sym b.1 ∙ a.1)
-
 -- a test that doesn't pass where its passing is absurd
 fails : (b : Bool) → (b ≡ true → ⊥) → b ≡ false
 fails b never = elim b as (λ q. (q ≡ true → ⊥) → q ≡ false) [ true ↦ (λ h. absurd (h refl)) | false ↦ (λ h. refl) ] never
@@ -65,8 +51,8 @@ fails b never = elim b as (λ q. (q ≡ true → ⊥) → q ≡ false) [ true �
 holds-other : (slot index other at : ℕ) (o : Option Tag) → holds_page slot index o ≡ true → (slot * MAX_MAPPING_PAGES + index ≢ other * MAX_MAPPING_PAGES + at) → holds_page other at o ≡ false
 holds-other slot index other at o e apart =
     fails (holds_page other at o) (λ f.
-    let same = same_page slot index other at o e f in
-    apart (ap (λ n. n * MAX_MAPPING_PAGES + index) (sym same.0) ∙ ap (λ n. other * MAX_MAPPING_PAGES + n) (sym same.1)))
+    let same = holds-exact slot other index at o e f in
+    apart (ap (λ n. n * MAX_MAPPING_PAGES + index) same.0 ∙ ap (λ n. other * MAX_MAPPING_PAGES + n) same.1))
 
 holds-none : (slot index : ℕ) (o : Option Tag) → is_none o ≡ true → holds_page slot index o ≡ false
 holds-none slot index None e = refl
@@ -141,7 +127,7 @@ IsTable-assigned slots swap table slot index number below within sound number_be
 
     clash : (s i k : ℕ) → k ≢ number → holds_page s i (get_or new number None) ≡ true → holds_page s i (get_or new k None) ≡ true → ⊥
     clash s i k apart mine has =
-        let same = same_page s i slot index (Some tag) (ap (holds_page s i) (sym here) ∙ mine) (holds-itself slot index) in
+        let same = holds-exact slot s index i (Some tag) (holds-itself slot index) (ap (holds_page s i) (sym here) ∙ mine) in
         let there : holds_page slot index (get_or swap k None) ≡ true =
         ap (λ (q : ℕ). holds_page q index (get_or swap k None)) same.0 ∙ ap (λ (q : ℕ). holds_page s q (get_or swap k None)) same.1 ∙ old s i k apart has in
         let bad : false ≡ true = sym (nowhere k) ∙ there in cc

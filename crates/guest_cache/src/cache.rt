@@ -216,8 +216,8 @@ impl Cache {
         self.swapped[(slot * MAX_MAPPING_PAGES + index) as usize]
     }
 
-    /// The least free swap slot.
-    fn least_free(&self) -> Option<u32>
+    /// The least free swap slot; `None` exactly where all swap slots are assigned.
+    pub fn least_free(&self) -> Option<u32>
         ensures { result ≡ free_swap self.now }
     {
         let mut number = self.used_below;

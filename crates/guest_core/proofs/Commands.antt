@@ -2,7 +2,7 @@
 use Rattle.std.proofs.Common.{◌≡◌, ◌≤◌, ◌/◌, ℕ, List, Bool, true, false, length, Some, IsSome, sym, subst}
 use Rattle.cmm_types.specs.declared.page.TheConstants.{PAGE}
 use Rattle.cmm_types.specs.declared.command.Op.{Op}
-use Rattle.cmm_types.specs.declared.command.Op.TheVariants.{Read, Write, MapFile, Load, Store, Sync}
+use Rattle.cmm_types.specs.declared.command.Op.TheVariants.{Read, Write, MapFile, Load, Store, Sync, Unmap}
 use Rattle.cmm_types.specs.InRange.{IsPiece}
 use Rattle.cmm_flat.specs.Legal.{process_of, flat_of}
 use Rattle.cmm_storage.specs.StorageView.{StorageView}
@@ -16,7 +16,7 @@ use Rattle.guest_rules.proofs.Cases.TurnCases.{Has, Starts, HasItsTag, pin_op}
 use Rattle.guest_rules.proofs.Cases.WantedTags.{write-piece}
 use Rattle.guest_rules.proofs.Cases.Placed.{ReachesPlace, pin-reaches}
 use Rattle.guest_rules.proofs.Cases.Reached.{Reaches, load_reaches, store_reaches}
-use Rattle.guest_rules.proofs.Ready.ReadyCalls.{read-piece, load-piece, store-piece, pin-piece, map-pages, map-free, process-below, writers-most, reached-place, pins-most, unpin-some, sync-starts}
+use Rattle.guest_rules.proofs.Ready.ReadyCalls.{read-piece, load-piece, store-piece, pin-piece, map-pages, map-free, process-below, writers-most, reached-place, pins-most, unpin-some, sync-starts, unmap-number}
 use Rattle.guest_core.specs.Between.{CanLookUp, IsFit}
 
 -- a guest that fits, and the command that a processor has
@@ -54,6 +54,9 @@ module _ (g : GuestState) (v : StorageView) (fit : IsFit g v) (cpu : ℕ) (op : 
     process_below = process-below g v fit.0 cpu fit.1;
     number_below = (pin-piece g v fit.0 cpu pins number index fit.1 (subst (λ q. Has g cpu q) is has)).0;
   }
+
+  pub unmap-looks_up : (number : ℕ) → Has g cpu op → op ≡ Unmap number → CanLookUp (process_of g.plan cpu) number
+  unmap-looks_up number has is = record { process_below = process-below g v fit.0 cpu fit.1; number_below = unmap-number g v fit.0 cpu number fit.1 (subst (λ q. Has g cpu q) is has) }
 
   -- ---- its place, where its slot is found
 

@@ -6,5 +6,6 @@ mod Opened
 mod OtherTurns
 mod Spots
 mod Syncs
+mod Teardown
 mod AloneRuns
 pub mod AloneDiscards

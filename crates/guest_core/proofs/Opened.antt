@@ -17,6 +17,6 @@ all_at_start (cpu ∷ cpus) = ap (λ processors. first_processor ∷ processors)
 pub opened : (plan copy : GuestPlan) (pages : PagesView) (cache : CacheView) (maps : MapsView) (journal : List Entry) (processors : List Processor)
     → copy ≡ plan → pages ≡ opening_pages plan.pages → cache ≡ opening_cache (map (λ file. file.pages) plan.files) plan.swap MAX_MAPPING_SLOTS
     → maps ≡ opening_maps plan.pages MAX_MAPPING_SLOTS → journal ≡ [] → processors ≡ map (λ cpu. first_processor) plan.cpus
-    → (record { plan = copy; parts = record { pages = pages; cache = cache; maps = maps; faults = 0 }; journal = journal; processors = processors }) ≡ opening_guest plan
+    → (record { plan = copy; parts = record { pages = pages; cache = cache; maps = maps; hand = 0; faults = 0 }; journal = journal; processors = processors }) ≡ opening_guest plan
 opened plan copy pages cache maps journal processors is_plan is_pages is_cache is_maps is_journal is_processors =
     rw (is_plan, is_pages, is_cache, is_maps, is_journal, is_processors) refl

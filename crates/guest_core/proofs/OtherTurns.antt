@@ -4,7 +4,7 @@ use Rattle.cmm_types.specs.declared.page.TheConstants.{PAGE}
 use Rattle.cmm_types.specs.declared.page.Tag.{Tag}
 use Rattle.cmm_types.specs.declared.page.Tag.TheVariants.{File}
 use Rattle.cmm_types.specs.declared.command.Op.{Op}
-use Rattle.cmm_types.specs.declared.command.Op.TheVariants.{Read, Write, MapFile, Load, Store, Pin, Unpin, Sync}
+use Rattle.cmm_types.specs.declared.command.Op.TheVariants.{Read, Write, MapFile, Unmap, Load, Store, Pin, Unpin, Sync}
 use Rattle.cmm_types.specs.declared.command.FlatRefusal.TheVariants.{AlreadyMapped}
 use Rattle.cmm_types.specs.declared.turn.Turn.{Turn}
 use Rattle.cmm_flat.specs.Legal.{process_of}
@@ -15,7 +15,7 @@ use Rattle.guest_maps.specs.declared.slot.Pte.{Pte}
 use Rattle.guest_maps.specs.declared.slot.Shown.TheVariants.{File as OfFile}
 use Rattle.guest_maps.specs.MapsView.{find_slot, free_slot, tag_at}
 use Rattle.guest_rules.specs.GuestState.{GuestState}
-use Rattle.guest_rules.specs.Turns.{refusal_of_new, resolve_turn, pin_turn, use_turn, hit_turn, start_tagged, start_at, start_entry, start_mapped, start_placed, map_turn, start_accepted, sync_turn, write_back_turn}
+use Rattle.guest_rules.specs.Turns.{refusal_of_new, resolve_turn, pin_turn, use_turn, hit_turn, start_tagged, start_at, start_entry, start_mapped, start_placed, map_turn, unmap_turn, start_accepted, sync_turn, write_back_turn}
 use Rattle.guest_core.specs.Between.{serving}
 use Rattle.guest_core.specs.TurnParts.{read_turn, write_turn, load_turn, store_turn, sync_at, write_file_back}
 
@@ -92,6 +92,9 @@ module _ (g : GuestState) (cpu : ℕ) (op : Op) where
   pub accepted-unpin : (number index : ℕ) → op ≡ Unpin number index
       → start_accepted g cpu op ≡ start_placed g cpu op index (find_slot g.parts.maps (process_of g.plan cpu) number)
   accepted-unpin number index is = rw is refl
+
+  pub accepted-unmap : (number : ℕ) → op ≡ Unmap number → start_accepted g cpu op ≡ unmap_turn g cpu op (find_slot g.parts.maps (process_of g.plan cpu) number)
+  accepted-unmap number is = rw is refl
 
   pub accepted-sync : (file : ℕ) → op ≡ Sync file → start_accepted g cpu op ≡ sync_at g cpu op file 0
   unfolding sync_turn

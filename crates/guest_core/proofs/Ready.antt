@@ -10,7 +10,7 @@ use Rattle.guest_cache.specs.CacheView.{IsTag, page_of}
 use Rattle.guest_rules.specs.declared.processor.Phase.TheVariants.{Fill}
 use Rattle.guest_rules.specs.GuestState.{GuestState, processor_at}
 use Rattle.guest_rules.specs.Calls.{CanTake, CanFill}
-use Rattle.guest_rules.specs.Fit.{Fit}
+use Rattle.guest_rules.specs.Fit.{Fit, answered_early}
 use Rattle.guest_rules.proofs.Cases.TurnCases.{Starts, Wants}
 use Rattle.guest_rules.proofs.Cases.WantedTags.{is_wanted}
 use Rattle.guest_rules.proofs.Ready.ReadyCalls.{CanBeUsed, found-usable, filling-usable, page-shown, backing-below, journal-room, place-below}
@@ -39,6 +39,10 @@ next_below g v page o fit top is =
     let first : g.parts.pages.free ≡ page ∷ drop 1 g.parts.pages.free = rw is at top in
     (fit.1.pages.free page (subst (λ free. Contains free page) (sym first) (Contains-first page (drop 1 g.parts.pages.free)))).0
 
+-- or none is free
+pub none_free : (g : GuestState) (o : Option ℕ) → MatchOption o (g.parts.pages.free ≡ []) (λ page. g.parts.pages.free ≡ page ∷ drop 1 g.parts.pages.free) → o ≡ None → g.parts.pages.free ≡ []
+none_free g o top is = rw is at top
+
 -- it can get the tag
 pub next_begins : (g : GuestState) (v : StorageView) (page : ℕ) (tag : Tag) (o : Option ℕ) → IsFit g v
     → MatchOption o (g.parts.pages.free ≡ []) (λ page. g.parts.pages.free ≡ page ∷ drop 1 g.parts.pages.free) → o ≡ Some page
@@ -50,12 +54,13 @@ pub next_there : (g : GuestState) (v : StorageView) (page : ℕ) (o : Option ℕ
     → MatchOption o (g.parts.pages.free ≡ []) (λ page. g.parts.pages.free ≡ page ∷ drop 1 g.parts.pages.free) → o ≡ Some page → page < v.pages
 next_there g v page o fit top is = omega (arith, next_below g v page o fit top is, fit.1.sizes.infos, fit.1.sizes.pages)
 
--- while a processor has a command, its reply can be entered
+-- while a processor has a command that isn't answered yet, its reply can be entered
 pub can_enter : (g : GuestState) (v : StorageView) (d : DiskView) (cpu : ℕ) (op : Op) → Fit g v d → cpu < length g.processors
-    → command_of g.plan cpu (processor_at g cpu).place ≡ Some op → CanEnter g cpu
-can_enter g v d cpu op f below command = record {
+    → command_of g.plan cpu (processor_at g cpu).place ≡ Some op → answered_early (processor_at g cpu).phase ≡ 0
+    → CanEnter g cpu
+can_enter g v d cpu op f below command early = record {
   there = below;
-  room = journal-room g v d cpu op f below command;
+  room = journal-room g v d cpu op f below command early;
   next = omega (arith, place-below g v d cpu op f command);
 }
 

@@ -38,7 +38,7 @@ spot-there maps slot index place = of (slot_at maps slot) (entry_at maps slot in
     of (Some mapping) pte e = test (nat_lt index mapping.count) _ e
 
 -- the test of a place
-place_test : (o : Option Slot) (index : ℕ) → nat_lt index (mapping_pages o) ≡ slot_has_page o index
+pub place_test : (o : Option Slot) (index : ℕ) → nat_lt index (mapping_pages o) ≡ slot_has_page o index
 place_test None index = grind (arith, nat_tests)
 place_test (Some mapping) index = refl
 

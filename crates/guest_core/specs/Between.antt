@@ -1,9 +1,9 @@
 -- What stands before the parts of a turn.
-use Rattle.std.specs.Prelude.{◌≡◌, ◌<◌, ◌+◌, ◌/◌, ◌^◌, ◌&&◌, not, if◌then◌else◌, ℕ, Bool, true, length, Option, Some, None}
+use Rattle.std.specs.Prelude.{◌≡◌, ◌<◌, ◌≤◌, ◌+◌, ◌/◌, ◌^◌, ◌&&◌, not, if◌then◌else◌, ℕ, Bool, true, false, length, Option, Some, None}
 use Rattle.cmm_types.specs.declared.page.TheConstants.{PAGE}
 use Rattle.cmm_types.specs.declared.page.Tag.{Tag}
 use Rattle.cmm_types.specs.declared.plan.TheConstants.{MAX_PROCESSES}
-use Rattle.cmm_types.specs.declared.command.TheConstants.{MAX_MAPPING_NUMBERS}
+use Rattle.cmm_types.specs.declared.command.TheConstants.{MAX_MAPPING_NUMBERS, MAX_MAPPING_PAGES}
 use Rattle.cmm_types.specs.declared.command.Op.{Op}
 use Rattle.cmm_types.specs.declared.command.FlatRefusal.{FlatRefusal}
 use Rattle.cmm_types.specs.declared.command.FlatRefusal.TheVariants.{OutOfRange, ReadOnly}
@@ -12,9 +12,10 @@ use Rattle.cmm_storage.specs.StorageView.{StorageView}
 use Rattle.guest_cache.specs.CacheView.{IsTag, page_of}
 use Rattle.guest_maps.specs.declared.slot.Pte.{Pte}
 use Rattle.guest_maps.specs.declared.slot.Spot.{Spot}
-use Rattle.guest_maps.specs.MapsView.{entry_at}
+use Rattle.guest_maps.specs.MapsView.{MapsView, slot_at, is_torn, any_pinned, entry_at}
 use Rattle.guest_rules.specs.declared.parts.Parts.{Parts}
 use Rattle.guest_rules.specs.GuestState.{GuestState, processor_at}
+use Rattle.guest_rules.specs.Turns.{mapping_pages}
 use Rattle.guest_rules.specs.Fit.{Fit, all_commands}
 use Rattle.guest_rules.proofs.Cases.Reached.{Reaches}
 
@@ -58,3 +59,12 @@ refusal_by_spot writes (Some spot) = if writes && not spot.writable then Some Re
 abbrev pub serving : (writes : Bool) → Option Pte → Option ℕ
 serving writes None = None
 serving writes (Some pte) = if writes && not pte.writable then None else Some pte.page
+
+-- the mapping that was in a slot is torn down up to page `index`: up to there, and where it has no page, there is no entry, and nothing of it
+-- is pinned
+pub record IsTornTo (maps : MapsView) (slot index : ℕ) : Type 0 where
+  pub below : slot < length maps.slots
+  pub torn : is_torn (slot_at maps slot) ≡ true
+  pub unpinned : any_pinned maps slot ≡ false
+  pub past : (at : ℕ) → at ≤ index → entry_at maps slot at ≡ None
+  pub outside : (at : ℕ) → at < MAX_MAPPING_PAGES → mapping_pages (slot_at maps slot) ≤ at → entry_at maps slot at ≡ None

@@ -1,4 +1,4 @@
-ghost use Rattle.std.specs.Prelude.{◌≡◌, ◌<◌, ◌↔◌, length, None, Some, true, IfOk, IsTrue, option_copied};
+ghost use Rattle.std.specs.Prelude.{◌≡◌, ◌<◌, ◌+◌, ◌^◌, ◌++◌, [], ◌∷◌, ◌↔◌, length, None, Some, true, IfOk, IsTrue, option_copied};
 ghost use Rattle.cmm_types.specs.declared.plan.TheConstants.{MAX_MAPPING_SLOTS};
 ghost use Rattle.cmm_types.specs.declared.turn.Turn.TheVariants.{Finished};
 ghost use Rattle.cmm_types.specs.InRange.{GuestInRange};
@@ -8,7 +8,7 @@ ghost use Rattle.cmm_storage.specs.StorageView.{StorageView};
 ghost use Rattle.cmm_storage.specs.Program.{done, Does};
 ghost use Rattle.guest_pages.specs.PagesView.{info_at};
 ghost use Rattle.guest_rules.specs.declared.processor.Phase.TheVariants.{Start, Fill};
-ghost use Rattle.guest_rules.specs.GuestState.{opening_guest, processor_at, with_phase, entered};
+ghost use Rattle.guest_rules.specs.GuestState.{opening_guest, processor_at, with_phase, entered, answered, next_command};
 ghost use Rattle.guest_rules.specs.Turns.{missed_next, turn_in, turn};
 ghost use Rattle.guest_rules.specs.Built.{GuestIsBuilt};
 ghost use Rattle.guest_rules.specs.Fresh.{AreFresh};
@@ -21,7 +21,9 @@ ghost use Rattle.guest_core.specs.AloneDiscards.{TurnsDiscardRightly, moved_befo
 
 mod look;
 mod page;
+mod room;
 mod sync;
+mod teardown;
 
 use crate::copies::copy_plan;
 use crate::plans::{all_commands, command, pages_of_files, process};
@@ -35,8 +37,8 @@ use guest_rules::{Missed, Parts, Phase, Processor};
 use std::alloc::{AllocError, Global};
 use std::marker::Model;
 
-/// A command takes at most so many turns over a storage that never misses: 12, and a sync 3 more for each page of its
-/// file.
+/// A command takes at most so many turns over a storage that never misses: 12, a sync 3 more for each page of its file,
+/// and an unmap 3 more for each page of its mapping, which has at most as many.
 const MOST_TURNS: u32 = 12 + 3 * MAX_FILE_PAGES;
 
 /// A guest, which keeps a copy of its plan.
@@ -74,6 +76,7 @@ impl Guest {
             pages: Pages::open(alloc, plan.pages)?,
             cache: Cache::open(alloc, &files, plan.swap, MAX_MAPPING_SLOTS)?,
             maps: Maps::open(alloc, plan.pages)?,
+            hand: 0,
             faults: 0,
         };
         let start = Processor {
@@ -95,7 +98,8 @@ impl Guest {
         &self.plan
     }
 
-    /// The replies so far, in the order in which the commands were finished.
+    /// The replies so far, in the order in which the commands were answered. A command is answered where it is done, and an
+    /// unmap before it takes its pages off.
     pub fn journal(&self) -> &[Entry]
         ensures { result.now ≡ self.now.journal }
     {
@@ -117,7 +121,7 @@ impl Guest {
         self.parts.pages.info(page)
     }
 
-    /// Whether a processor has no command left.
+    /// Whether a processor has no command left. An unmap is one until the last page of its mapping is off.
     pub fn done(&self, cpu: u32) -> bool
         requires { cpu < length self.now.processors }
         ensures { IsTrue result ↔ (command_of self.now.plan cpu (processor_at self.now cpu).place ≡ None) }
@@ -147,12 +151,10 @@ impl Guest {
         process(&self.plan, cpu)
     }
 
-    /// Writes a reply, with a copy of its command, into the journal; the processor goes on to its next command.
-    #[tactic(auto, unfolding(guest_rules::specs::GuestState::entered))]
-    fn finish(&mut self, cpu: u32, op: &Op, reply: Reply) -> Turn
+    /// Writes a reply, with a copy of its command, into the journal.
+    fn enter(&mut self, cpu: u32, op: &Op, reply: Reply)
         requires { CanEnter self.old cpu }
-        ensures entered { self.new ≡ entered self.old cpu op.now reply }
-        ensures finished { result ≡ Finished }
+        ensures { self.new ≡ record self.old { journal = self.old.journal ++ record { cpu = cpu; k = (processor_at self.old cpu).place; op = op.now; reply = reply } ∷ [] } }
     {
         let place = self.processors[cpu as usize].place;
         let _ = self.journal.push(Entry {
@@ -161,11 +163,42 @@ impl Guest {
             op: op.copy(),
             reply,
         });
+    }
+
+    /// A processor whose command was answered goes on to its next one.
+    #[tactic(auto, unfolding(guest_rules::specs::GuestState::next_command))]
+    fn next_command(&mut self, cpu: u32)
+        requires cpu { cpu < length self.old.processors }
+        requires next { (processor_at self.old cpu).place + 1 < 2 ^ 32 }
+        ensures { self.new ≡ next_command self.old cpu }
+    {
+        let place = self.processors[cpu as usize].place;
         self.processors[cpu as usize] = Processor {
             place: place + 1,
             phase: Phase::Start,
         };
+    }
+
+    /// A command is done: its reply stands in the journal, and the processor goes on to its next command.
+    #[tactic(auto, unfolding(guest_rules::specs::GuestState::entered, guest_rules::specs::GuestState::next_command))]
+    fn finish(&mut self, cpu: u32, op: &Op, reply: Reply) -> Turn
+        requires { CanEnter self.old cpu }
+        ensures entered { self.new ≡ entered self.old cpu op.now reply }
+        ensures finished { result ≡ Finished }
+    {
+        self.enter(cpu, op, reply);
+        self.next_command(cpu);
         Turn::Finished
+    }
+
+    /// A command is answered, and goes on in a phase.
+    #[tactic(auto, unfolding(guest_rules::specs::GuestState::answered, guest_rules::specs::GuestState::with_phase))]
+    fn answer(&mut self, cpu: u32, op: &Op, reply: Reply, phase: Phase)
+        requires { CanEnter self.old cpu }
+        ensures answered { self.new ≡ answered self.old cpu op.now reply phase }
+    {
+        self.enter(cpu, op, reply);
+        self.set_phase(cpu, phase);
     }
 
     /// A command whose page wasn't reached goes on, is taken again, or has failed.
@@ -223,10 +256,12 @@ impl Guest {
         match self.processor(cpu).phase {
             Phase::Start => self.start_turn(cpu, st, op),
             Phase::Fill { page } => self.fill_turn(cpu, st, disk, op, page),
+            Phase::Room { page } => self.page_out_turn(cpu, st, disk, op, page),
             Phase::Sync { index } => self.look_turn(cpu, st, op, index),
             Phase::SyncWrite { index, page } => self.write_back_turn(
                 cpu, st, disk, op, index, page,
             ),
+            Phase::Teardown { slot, index } => self.teardown_turn(cpu, st, slot, index),
         }
     }
 
@@ -270,7 +305,7 @@ impl Guest {
     }
 
     /// Turns of a processor up to the first that doesn't move, over a storage that never misses. They are at most 12, and
-    /// 3 more for each page of the file of a sync.
+    /// 3 more for each page of the file of a sync, or of the mapping of an unmap.
     pub fn alone<St: Storage, D: Disk>(&mut self, cpu: u32, st: &mut St, disk: &mut D) -> Alone
         requires cpu { cpu < length self.old.processors }
         requires quiet { (St.view st.old).quiet ≡ true }

@@ -2,7 +2,7 @@
 ghost use Rattle.std.specs.Prelude.{◌≡◌, ◌<◌, length, Some};
 ghost use Rattle.cmm_types.specs.InRange.{IsPiece};
 ghost use Rattle.guest_maps.specs.MapsView.{find_slot};
-ghost use Rattle.guest_rules.specs.Turns.{refusal_at, refusal_of_pin, refusal_of_pin_at};
+ghost use Rattle.guest_rules.specs.Turns.{refusal_at, refusal_of_pin, refusal_of_pin_at, refusal_of_unmap};
 ghost use Rattle.guest_core.specs.Between.{CanLookUp, refusal_by_spot};
 
 use cmm_types::{FlatRefusal, PAGE};
@@ -81,5 +81,22 @@ pub fn refusal_of_pin_at(
     match maps.find(process, map) {
         None => Some(FlatRefusal::NoMapping),
         Some(slot) => refusal_in_slot(maps, pins, slot, index),
+    }
+}
+
+/// Why a process's mapping can't end.
+pub fn refusal_of_unmap(maps: &Maps, process: u32, map: u32) -> Option<FlatRefusal>
+    requires looks_up { CanLookUp process map }
+    ensures { result ≡ refusal_of_unmap maps.now (find_slot maps.now process map) }
+{
+    match maps.find(process, map) {
+        None => Some(FlatRefusal::NoMapping),
+        Some(slot) => {
+            if maps.any_pinned(slot) {
+                Some(FlatRefusal::Pinned)
+            } else {
+                None
+            }
+        }
     }
 }

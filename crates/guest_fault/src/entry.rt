@@ -1,4 +1,4 @@
-// The entries of mappings.
+// The setting of a mapping's entries.
 ghost use Rattle.std.specs.Prelude.{◌≡◌, length, None};
 ghost use Rattle.cmm_storage.specs.Program.{DoesAlone};
 ghost use Rattle.guest_rules.specs.Rows.{mapped, resolve};

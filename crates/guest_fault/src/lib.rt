@@ -1,11 +1,13 @@
-//! Filling a guest's page with the bytes of its tag, and giving a mapping's page the entry that shows it. Each call
-//! holds the page once.
+//! Filling a guest's page with the bytes of its tag, and giving a mapping's page the entry that shows it, or clearing
+//! it. Each call holds the page once.
 #![tactic(auto)]
 
+mod clearing;
 mod entry;
 mod filling;
 #[cfg(test)]
 mod tests;
 
+pub use clearing::clear_entry;
 pub use entry::resolve;
 pub use filling::fill;

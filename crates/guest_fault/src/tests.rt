@@ -21,6 +21,7 @@ fn fill_file(
         pages: Pages::open(alloc, 1)?,
         cache: Cache::open(alloc, &[1], 0, 0)?,
         maps: Maps::open(alloc, 1)?,
+        hand: 0,
         faults: 0,
     };
     let tag = Tag::File { file: 0, index: 0 };

@@ -52,6 +52,7 @@ fn look(
         pages: Pages::open(alloc, 1)?,
         cache: Cache::open(alloc, &[1], 0, 0)?,
         maps: Maps::open(alloc, 1)?,
+        hand: 0,
         faults: 0,
     };
     let tag = Tag::File { file: 0, index: 0 };
@@ -92,6 +93,7 @@ fn back(
         pages: Pages::open(alloc, 1)?,
         cache: Cache::open(alloc, &[1], 0, 0)?,
         maps: Maps::open(alloc, 1)?,
+        hand: 0,
         faults: 0,
     };
     let tag = Tag::File { file: 0, index: 0 };

@@ -46,6 +46,7 @@ fn read(
         pages: Pages::open(alloc, 1)?,
         cache: Cache::open(alloc, &[], 0, 0)?,
         maps: Maps::open(alloc, 1)?,
+        hand: 0,
         faults: 0,
     };
     parts.pages.pop();
@@ -99,6 +100,7 @@ fn write(alloc: Global, noises: [Noise; 4]) -> Result<(Result<(), Missed>, bool,
         pages: Pages::open(alloc, 1)?,
         cache: Cache::open(alloc, &[], 0, 0)?,
         maps: Maps::open(alloc, 1)?,
+        hand: 0,
         faults: 0,
     };
     parts.pages.pop();
@@ -142,6 +144,7 @@ fn pin(alloc: Global, noises: [Noise; 4]) -> Result<(Placed, Option<u32>), Alloc
         pages: Pages::open(alloc, 1)?,
         cache: Cache::open(alloc, &[], 0, 0)?,
         maps: Maps::open(alloc, 1)?,
+        hand: 0,
         faults: 0,
     };
     parts.pages.pop();

@@ -1,6 +1,7 @@
 -- Every turn keeps fit (`FitTurn`), and so does whatever the host does meanwhile (`FitMay`). A turn's file joins the parts
 -- that its change keeps.
 pub mod FitMay
+pub mod FitOthers
 pub mod FitEntered
 pub mod FitChanged
 pub mod StepBegun
@@ -17,8 +18,15 @@ pub mod FitBytes
 pub mod ReplyStored
 pub mod ReplyWritten
 pub mod ReplyPinned
+pub mod ReplyUnmapped
 pub mod FitPassed
 pub mod FitBlock
+pub mod StepLocked
 pub mod StepSynced
+pub mod PinnedBound
+pub mod StepRoom
 pub mod FitSync
+pub mod FitRoom
+pub mod StepTorn
+pub mod FitTorn
 pub mod FitTurn

@@ -7,6 +7,7 @@ pub mod Currents
 pub mod CurrentsKept
 pub mod EntryLaws
 pub mod PinLaws
+pub mod Sums
 pub mod SlotsKept
 pub mod EntriesKept
 pub mod PagesKept
@@ -14,6 +15,7 @@ pub mod LocksKept
 pub mod RowChanges
 pub mod SyncTables
 pub mod PinsKept
+pub mod TeardownsKept
 pub mod Unpinned
 pub mod Unshown
 pub mod Tables

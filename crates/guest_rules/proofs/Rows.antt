@@ -8,9 +8,12 @@ pub mod MissedPage
 pub mod ReadPage
 pub mod WritePage
 pub mod ResolvePage
+pub mod ClearEntry
 pub mod EntryPage
 pub mod FillPage
 pub mod SyncPage
+pub mod RoomPage
 pub mod WriteBack
 pub mod PinPage
 pub mod AnswerLaws
+pub mod RoomAnswers

@@ -1,29 +1,47 @@
 -- A processor's turns up to the first that didn't move.
-use Rattle.std.specs.Prelude.{ℕ, zero, suc, ◌+◌, ◌*◌}
+use Rattle.std.specs.Prelude.{ℕ, zero, suc, ◌+◌, ◌*◌, Option, Some, None}
 use Rattle.cmm_types.specs.declared.plan.TheConstants.{MAX_FILE_PAGES}
-use Rattle.cmm_types.specs.declared.plan.GuestPlan.{GuestPlan}
 use Rattle.cmm_types.specs.declared.command.Op.{Op}
 use Rattle.cmm_types.specs.declared.command.Op.TheVariants.{Read, Write, Sync, MapFile, MapAnon, Unmap, Load, Store, Pin, Unpin}
 use Rattle.cmm_types.specs.declared.turn.Turn.{Turn}
 use Rattle.cmm_types.specs.declared.turn.Turn.TheVariants.{Moved, Finished, Waits, Again, Idle}
 use Rattle.cmm_types.specs.declared.turn.Alone.{Alone}
 use Rattle.cmm_types.specs.declared.turn.Alone.TheVariants.{Finished as AloneFinished, Waits as AloneWaits, Idle as AloneIdle}
+use Rattle.cmm_flat.specs.Legal.{process_of}
 use Rattle.cmm_storage.specs.Program.{Program, done, bind}
-use Rattle.guest_rules.specs.GuestState.{GuestState}
-use Rattle.guest_rules.specs.Turns.{file_pages, turn}
+use Rattle.guest_maps.specs.MapsView.{MapsView, slot_at, find_slot}
+use Rattle.guest_rules.specs.declared.processor.Phase.{Phase}
+use Rattle.guest_rules.specs.declared.processor.Phase.TheVariants.{Start, Fill, Room as AtRoom, Sync as AtSync, SyncWrite, Teardown}
+use Rattle.guest_rules.specs.GuestState.{GuestState, processor_at}
+use Rattle.guest_rules.specs.Turns.{file_pages, mapping_pages, turn}
 
--- so many turns a command takes at most, over a storage that never misses: 12, and a sync 3 more for each page of its file
-abbrev pub turns_of : GuestPlan → Op → ℕ
-turns_of plan (Read file off len) = 12
-turns_of plan (Write file off bytes) = 12
-turns_of plan (Sync file) = 12 + 3 * file_pages plan.files file
-turns_of plan (MapFile number file first count writable) = 12
-turns_of plan (MapAnon number count) = 12
-turns_of plan (Unmap number) = 12
-turns_of plan (Load number off len) = 12
-turns_of plan (Store number off bytes) = 12
-turns_of plan (Pin number index) = 12
-turns_of plan (Unpin number index) = 12
+-- the pages of the mapping in a slot that was found
+abbrev pub found_pages : MapsView → Option ℕ → ℕ
+found_pages maps None = 0
+found_pages maps (Some slot) = mapping_pages (slot_at maps slot)
+
+-- how many pages the mapping has that an unmap of this number ends, or is taking off already
+abbrev pub pages_to_tear : GuestState → (cpu number : ℕ) → Phase → ℕ
+pages_to_tear g cpu number Start = found_pages g.parts.maps (find_slot g.parts.maps (process_of g.plan cpu) number)
+pages_to_tear g cpu number (Teardown slot index) = mapping_pages (slot_at g.parts.maps slot)
+pages_to_tear g cpu number (Fill page) = 0
+pages_to_tear g cpu number (AtRoom page) = 0
+pages_to_tear g cpu number (AtSync index) = 0
+pages_to_tear g cpu number (SyncWrite index page) = 0
+
+-- so many turns a processor's command takes at most, over a storage that never misses: 12, a sync 3 more for each page of its file, and an
+-- unmap 3 more for each page of its mapping
+abbrev pub turns_of : GuestState → (cpu : ℕ) → Op → ℕ
+turns_of g cpu (Read file off len) = 12
+turns_of g cpu (Write file off bytes) = 12
+turns_of g cpu (Sync file) = 12 + 3 * file_pages g.plan.files file
+turns_of g cpu (MapFile number file first count writable) = 12
+turns_of g cpu (MapAnon number count) = 12
+turns_of g cpu (Unmap number) = 12 + 3 * pages_to_tear g cpu number (processor_at g cpu).phase
+turns_of g cpu (Load number off len) = 12
+turns_of g cpu (Store number off bytes) = 12
+turns_of g cpu (Pin number index) = 12
+turns_of g cpu (Unpin number index) = 12
 
 -- and so many any command of any plan
 unfoldable pub most_turns : ℕ

@@ -1,16 +1,17 @@
 -- What a call on one page leaves, and why it answers so, by its answer.
-use Rattle.std.specs.Prelude.{◌≡◌, ◌≢◌, ◌⊎◌, ◌<◌, ℕ, ◌||◌, List, ◌∷◌, length, take, drop, Bool, true, false, Option, Some, None, Result, Ok, Err}
+use Rattle.std.specs.Prelude.{◌≡◌, ◌≢◌, ◌⊎◌, ◌<◌, ℕ, ◌+◌, ◌-◌, ◌||◌, List, ◌∷◌, length, take, drop, Bool, true, false, nat_lt, if◌then◌else◌, Option, Some, None, IsSome, Result, Ok, Err}
 use Rattle.cmm_types.specs.declared.page.Usage.TheVariants.{S, U}
 use Rattle.cmm_types.specs.declared.page.Tag.{Tag}
 use Rattle.cmm_types.specs.declared.command.Cause.{Cause}
-use Rattle.cmm_types.specs.declared.command.Cause.TheVariants.{Disk, Paging, NoPage}
+use Rattle.cmm_types.specs.declared.command.Cause.TheVariants.{Disk, Paging, NoPage as NoPageCause}
 use Rattle.cmm_io.specs.Faults.{HasRisen, raised}
 use Rattle.cmm_io.specs.DiskView.{DiskView, with_block}
 use Rattle.essa_state.specs.PageValue.{PageValue, Bytes, IsValue, MayBecome, is_lost, is_blank}
 use Rattle.cmm_storage.specs.StorageView.{StorageView, Misses}
 use Rattle.cmm_types.specs.Bytes.{with_bytes}
 use Rattle.guest_pages.specs.PagesView.{info_at, free_info}
-use Rattle.guest_maps.specs.MapsView.{entries_showing, with_entry, with_pinned}
+use Rattle.guest_maps.specs.declared.slot.Pte.{Pte}
+use Rattle.guest_maps.specs.MapsView.{entries_showing, with_entry, with_pinned, one_if}
 use Rattle.guest_rules.specs.declared.parts.Parts.{Parts}
 use Rattle.guest_rules.specs.declared.outcome.Gone.{Gone}
 use Rattle.guest_rules.specs.declared.outcome.Filled.{Filled}
@@ -21,9 +22,13 @@ use Rattle.guest_rules.specs.declared.outcome.Placed.{Placed}
 use Rattle.guest_rules.specs.declared.outcome.Placed.TheVariants.{Done as PlaceDone, Gone as PlaceGone, Again as PlaceAgain}
 use Rattle.guest_rules.specs.declared.outcome.Synced.{Synced}
 use Rattle.guest_rules.specs.declared.outcome.Synced.TheVariants.{Clean, Locked, Gone as SyncGone, Waits, Again as SyncAgain}
+use Rattle.guest_rules.specs.declared.outcome.Room.{Room}
+use Rattle.guest_rules.specs.declared.outcome.Room.TheVariants.{Freed, Locked as RoomLocked, Waits as RoomWaits, NoPage, Again as RoomAgain}
 use Rattle.guest_rules.specs.Hint.{hint}
 use Rattle.guest_rules.specs.Rows.{dirtied, backing_at, pins_after}
 use Rattle.guest_rules.specs.Fit.{backed}
+use Rattle.guest_rules.specs.MakeRoom.{first_to_go, first_locked, pinned_count}
+use Rattle.guest_rules.specs.Stuck.{IsStuck}
 
 -- ---- what the page is before the call
 
@@ -117,7 +122,7 @@ StableAnswer old page v new (Err gone) w = (is_lost (v.values page).contents ≡
 abbrev pub FailCause : Cause → StorageView → DiskView → StorageView → DiskView → Type 0
 FailCause Disk v d w e = HasRisen d.faults e.faults
 FailCause Paging v d w e = HasRisen v.faults w.faults
-FailCause (NoPage pinned unslotted) v d w e = ⊥
+FailCause (NoPageCause pinned unslotted) v d w e = ⊥
 
 -- why a page wasn't reached: it was discarded; the storage missed it; or the storage failed
 abbrev pub MissedAnswer : Parts → ℕ → StorageView → Parts → Missed → StorageView → Type 0
@@ -125,7 +130,7 @@ MissedAnswer old page v new WasGone w = WasDiscarded old page v new w
 MissedAnswer old page v new (MissedAgain why) w = MayBeDirty old page new × Misses v w
 MissedAnswer old page v new (MissedFail Disk) w = ⊥
 MissedAnswer old page v new (MissedFail Paging) w = MayBeDirty old page new × HasRisen v.faults w.faults
-MissedAnswer old page v new (MissedFail (NoPage pinned unslotted)) w = ⊥
+MissedAnswer old page v new (MissedFail (NoPageCause pinned unslotted)) w = ⊥
 
 -- the bytes are those of the page from an offset on
 pub record AreBytesOf (w : StorageView) (page off len : ℕ) (bytes : List ℕ) : Type 0 where
@@ -156,7 +161,7 @@ EntryMissed old page v new WasGone w = WasDiscarded old page v new w
 EntryMissed old page v new (MissedAgain why) w = (new ≡ old) × Misses v w
 EntryMissed old page v new (MissedFail Disk) w = ⊥
 EntryMissed old page v new (MissedFail Paging) w = (new ≡ old) × HasRisen v.faults w.faults
-EntryMissed old page v new (MissedFail (NoPage pinned unslotted)) w = ⊥
+EntryMissed old page v new (MissedFail (NoPageCause pinned unslotted)) w = ⊥
 
 abbrev pub LoadAnswer : Parts → (page off len : ℕ) → StorageView → Parts → Result (List ℕ) Missed → StorageView → Type 0
 LoadAnswer old page off len v new (Ok bytes) w = AreBytesOf w page off len bytes × (new ≡ old)
@@ -184,6 +189,13 @@ abbrev pub ResolveAnswer : Parts → (page slot index : ℕ) → (writable : Boo
 ResolveAnswer old page slot index writable v new PlaceDone w = (new.maps ≡ with_entry old.maps slot index (Some (record { page = page; writable = writable }))) × IsHinted new page w
 ResolveAnswer old page slot index writable v new PlaceGone w = WasDiscarded old page v new w
 ResolveAnswer old page slot index writable v new (PlaceAgain why) w = (new ≡ old) × Misses v w
+
+-- the place has no entry, and the page one writer less where the entry allowed stores
+abbrev pub ClearAnswer : Parts → (slot index : ℕ) → Pte → StorageView → Parts → Placed → StorageView → Type 0
+ClearAnswer old slot index pte v new PlaceDone w =
+    (new.maps ≡ with_entry old.maps slot index None) × ((info_at new.pages pte.page).writers ≡ (info_at old.pages pte.page).writers - one_if pte.writable) × IsHinted new pte.page w
+ClearAnswer old slot index pte v new PlaceGone w = WasDiscarded old pte.page v new w
+ClearAnswer old slot index pte v new (PlaceAgain why) w = (new ≡ old) × Misses v w
 
 -- ---- a page that is filled
 
@@ -253,3 +265,29 @@ abbrev pub BackAnswer : Parts → ℕ → StorageView → DiskView → Parts →
 BackAnswer old page v d new Done w e = IsWrittenBack old page v d e × IsUnlocked page v false new w
 BackAnswer old page v d new (FilledAgain why) w e = (new ≡ old) × Misses v w × (e ≡ d)
 BackAnswer old page v d new (FilledFail cause) w e = IsUnlocked page v (info_at old.pages page).dirty new w × (e.blocks ≡ d.blocks) × FailCause cause v d w e
+
+-- ---- a page that makes room
+
+-- the page has a tag and its bytes; where it is changed, it is known to be dirty or has a block to be written to
+pub record CanBeWrittenOut (parts : Parts) (page : ℕ) (v : StorageView) : Type 0 where
+  pub filled : HasBeenFilled parts page v
+  pub backed_by : (v.values page).changed ≡ true → ((info_at parts.pages page).dirty ≡ true) ⊎ IsSome (backing_at parts page)
+
+-- the page was clean, and is free: the host was told that it is unused, and the hand stands behind it
+pub record IsCleared (old : Parts) (page : ℕ) (v : StorageView) (new : Parts) (w : StorageView) : Type 0 where
+  pub was : WasClean old page v
+  pub free : IsFree new page
+  pub unused : (w.values page).usage ≡ U
+  pub hand : new.hand ≡ (if nat_lt (page + 1) (length old.pages.infos) then page + 1 else 0)
+  pub faults : new.faults ≡ old.faults
+
+-- the first page that can go was discarded or clean, and is free; or it is dirty and is locked, and has a block. Otherwise none can go
+abbrev pub RoomAnswer : Parts → (cpu : ℕ) → StorageView → Parts → Room → StorageView → Type 0
+RoomAnswer old cpu v new Freed w =
+    (page : ℕ) × (first_to_go old ≡ Some page) × ((WasDiscarded old page v new w × (new.hand ≡ old.hand)) ⊎ IsCleared old page v new w)
+RoomAnswer old cpu v new (RoomLocked page) w = (first_to_go old ≡ Some page) × IsLockedFor old page cpu v new w × IsSome (backing_at new page)
+RoomAnswer old cpu v new (RoomWaits page owner) w =
+    (first_to_go old ≡ None) × (first_locked old ≡ Some page) × ((info_at old.pages page).owner ≡ Some owner) × (new ≡ old) × (w ≡ v)
+RoomAnswer old cpu v new (NoPage pinned unslotted) w =
+    IsStuck old × (pinned ≡ pinned_count old) × (pinned + unslotted ≡ length old.pages.infos) × (new ≡ old) × (w ≡ v)
+RoomAnswer old cpu v new (RoomAgain why) w = (new ≡ old) × Misses v w

@@ -1,5 +1,5 @@
 -- What the calls on one page ask of the tables, the storage and the disk.
-use Rattle.std.specs.Prelude.{◌≡◌, ◌<◌, ◌≤◌, ◌+◌, ◌*◌, ℕ, Bool, true, false, length, Contains, Some, None, IfSome}
+use Rattle.std.specs.Prelude.{◌≡◌, ◌≢◌, ◌<◌, ◌≤◌, ◌+◌, ◌*◌, ℕ, Bool, true, false, [], length, Contains, Some, None, IfSome}
 use Rattle.cmm_types.specs.declared.page.TheConstants.{PAGE}
 use Rattle.cmm_types.specs.declared.page.Usage.TheVariants.{S}
 use Rattle.cmm_types.specs.declared.bytes.TheConstants.{MAX_BYTES}
@@ -10,6 +10,7 @@ use Rattle.essa_state.specs.StateWord.{is_unused}
 use Rattle.cmm_storage.specs.StorageView.{StorageView, can_store}
 use Rattle.guest_pages.specs.PagesView.{info_at}
 use Rattle.guest_cache.specs.CacheView.{IsTag}
+use Rattle.guest_maps.specs.declared.slot.Pte.{Pte}
 use Rattle.guest_maps.specs.MapsView.{IsPlace}
 use Rattle.guest_rules.specs.declared.parts.Parts.{Parts}
 use Rattle.guest_rules.specs.Rows.{backing_at}
@@ -56,6 +57,13 @@ pub record CanStore (parts : Parts) (v : StorageView) (page : ℕ) : Type 0 wher
   pub takes : CanTake parts v page
   pub writable : can_store (v.values page).usage ≡ true
 
+-- room can be made: no page is free, so that each has a tag, and each can be taken; none is held
+pub record CanMakeRoom (parts : Parts) (v : StorageView) : Type 0 where
+  pub full : parts.pages.free ≡ []
+  pub tagged : (page : ℕ) → page < length parts.pages.infos → (info_at parts.pages page).tag ≢ None
+  pub takes : (page : ℕ) → page < length parts.pages.infos → CanTake parts v page
+  pub none_held : v.held ≡ None
+
 -- a command's bytes lie in one page, from an offset on
 pub record IsInPage (off len : ℕ) : Type 0 where
   pub few : len ≤ MAX_BYTES
@@ -67,6 +75,12 @@ pub record IsInPage (off len : ℕ) : Type 0 where
 pub record CanMap (parts : Parts) (page slot index : ℕ) : Type 0 where
   pub place : IsPlace parts.maps slot index
   pub writers : (info_at parts.pages page).writers ≤ MAX_MAPPING_SLOTS * MAX_MAPPING_PAGES
+
+-- its entry can be cleared, and the page that it shows has a writer to count off where it allows stores
+pub record CanClear (parts : Parts) (v : StorageView) (slot index : ℕ) (pte : Pte) : Type 0 where
+  pub place : IsPlace parts.maps slot index
+  pub takes : CanTake parts v pte.page
+  pub writers : pte.writable ≡ true → 1 ≤ (info_at parts.pages pte.page).writers
 
 -- it can be pinned or unpinned, with the page: one pin more can be counted, or one less
 pub record CanPin (parts : Parts) (page slot index : ℕ) (pins : Bool) : Type 0 where

@@ -1,40 +1,9 @@
--- How many commands of a guest failed for each cause, and that no more did than calls failed.
-use Rattle.std.specs.Prelude.{ℕ, ◌≤◌, List, count_by, Bool, true, false}
-use Rattle.cmm_types.specs.declared.command.Entry.{Entry}
-use Rattle.cmm_types.specs.declared.command.Reply.{Reply}
-use Rattle.cmm_types.specs.declared.command.Reply.TheVariants.{Done, Bytes, Refused, Fail}
-use Rattle.cmm_types.specs.declared.command.Cause.TheVariants.{Disk, Paging, NoPage}
+-- No more commands of a guest failed than calls did.
+use Rattle.std.specs.Prelude.{◌≤◌}
 use Rattle.cmm_io.specs.DiskView.{DiskView}
 use Rattle.cmm_storage.specs.StorageView.{StorageView}
+pub use Rattle.cmm_flat.specs.Failures.{is_disk_failure, is_paging_failure, replies_of, disk_failures, paging_failures}
 use Rattle.guest_rules.specs.GuestState.{GuestState}
-
--- the reply `fail disk`
-abbrev pub is_disk_failure : Reply → Bool
-is_disk_failure Done = false
-is_disk_failure (Bytes bytes) = false
-is_disk_failure (Refused refusal) = false
-is_disk_failure (Fail Disk) = true
-is_disk_failure (Fail Paging) = false
-is_disk_failure (Fail (NoPage pinned unslotted)) = false
-
--- the reply `fail paging`
-abbrev pub is_paging_failure : Reply → Bool
-is_paging_failure Done = false
-is_paging_failure (Bytes bytes) = false
-is_paging_failure (Refused refusal) = false
-is_paging_failure (Fail Disk) = false
-is_paging_failure (Fail Paging) = true
-is_paging_failure (Fail (NoPage pinned unslotted)) = false
-
--- how many entries of a journal have a reply of this kind
-abbrev pub replies_of : (Reply → Bool) → List Entry → ℕ
-replies_of kind journal = count_by (λ entry. kind entry.reply) journal
-
-abbrev pub disk_failures : List Entry → ℕ
-disk_failures journal = replies_of is_disk_failure journal
-
-abbrev pub paging_failures : List Entry → ℕ
-paging_failures journal = replies_of is_paging_failure journal
 
 -- at most as many entries failed as calls of the guest's disk, and of its pager, did
 pub record FailuresFit (g : GuestState) (v : StorageView) (d : DiskView) : Type 0 where

@@ -18,7 +18,8 @@ use Rattle.cmm_flat.specs.declared.mapping.Shown.{Shown as FlatShown}
 use Rattle.cmm_flat.specs.declared.mapping.Shown.TheVariants.{OfFile as FlatFile, Anonymous}
 use Rattle.cmm_types.specs.Bytes.{bytes_at, zeros as flat_zeros, zero_page}
 use Rattle.cmm_flat.specs.State.{FlatState, mapping_at, file_at}
-use Rattle.cmm_flat.specs.Legal.{Legal, flat_of, walk_of, start_of, progress_of, command_of}
+use Rattle.cmm_flat.specs.Legal.{Legal, flat_of, walk_of, start_of, progress_of, command_of, process_of}
+pub use Rattle.cmm_flat.specs.Legal.{all_commands}
 use Rattle.cmm_io.specs.DiskView.{DiskView, AreBlocks}
 use Rattle.essa_state.specs.PageValue.{PageValue, Contents, Bytes, Blank, Lost, IsValue, is_lost, is_blank}
 use Rattle.cmm_storage.specs.StorageView.{StorageView}
@@ -30,7 +31,9 @@ use Rattle.guest_maps.specs.declared.slot.Shown.{Shown}
 use Rattle.guest_maps.specs.declared.slot.Shown.TheVariants.{File as OfFile, Anon}
 use Rattle.guest_maps.specs.MapsView.{MapsView, slot_at, find_slot, live_slots, entry_at, pinned_at, tag_at, writers_showing, IsPlace, one_if}
 use Rattle.guest_rules.specs.declared.parts.Parts.{Parts}
-use Rattle.guest_rules.specs.declared.processor.Phase.TheVariants.{Fill, Sync as AtSync, SyncWrite}
+use Rattle.guest_rules.specs.declared.processor.Phase.{Phase}
+use Rattle.guest_rules.specs.declared.processor.Processor.{Processor}
+use Rattle.guest_rules.specs.declared.processor.Phase.TheVariants.{Start, Fill, Room as AtRoom, Sync as AtSync, SyncWrite, Teardown}
 use Rattle.guest_rules.specs.Hint.{hint}
 use Rattle.guest_rules.specs.GuestState.{GuestState, processor_at}
 use Rattle.guest_rules.specs.Turns.{slot_writable, file_pages}
@@ -83,17 +86,17 @@ flat_found maps (Some slot) = flat_mapping maps slot (slot_at maps slot)
 abbrev pub ShowsFile : CacheView → Slot → Type 0
 ShowsFile cache slot = (file : ℕ) × (first : ℕ) × (writable : Bool) × (slot.shown ≡ OfFile file first writable) × (file < length cache.files) × (first + slot.count ≤ slice_index_or cache.files file 0)
 
--- mapping slots: a slot is free or live; the live ones are the live mappings of the flat state, each by its process and number
+-- mapping slots: a slot is free, live or being torn down; the live ones are the live mappings of the flat state, each by its process and number
 pub record SlotsFit (state : FlatState) (parts : Parts) : Type 0 where
   pub slots : length parts.maps.slots ≡ MAX_MAPPING_SLOTS
   pub entries : length parts.maps.entries ≡ MAX_MAPPING_SLOTS * MAX_MAPPING_PAGES
   pub pinned : length parts.maps.pinned ≡ MAX_MAPPING_SLOTS * MAX_MAPPING_PAGES
   pub pages : parts.maps.pages ≡ length parts.pages.infos
-  pub live : (slot : ℕ) (mapping : Slot) → slot_at parts.maps slot ≡ Some mapping → mapping.live ≡ true
-  pub apart : (slot other : ℕ) (mapping another : Slot) → slot_at parts.maps slot ≡ Some mapping → slot_at parts.maps other ≡ Some another → mapping.process ≡ another.process
-      → mapping.map ≡ another.map → slot ≡ other
+  pub apart : (slot other : ℕ) (mapping another : Slot) → slot_at parts.maps slot ≡ Some mapping → slot_at parts.maps other ≡ Some another → mapping.live ≡ true
+      → another.live ≡ true → mapping.process ≡ another.process → mapping.map ≡ another.map → slot ≡ other
   pub flat : (process number : ℕ) → mapping_at state process number ≡ flat_found parts.maps (find_slot parts.maps process number)
   pub counted : finite.len state.mappings ≡ live_slots parts.maps
+  pub some : (slot : ℕ) (mapping : Slot) → slot_at parts.maps slot ≡ Some mapping → 1 ≤ mapping.count
   pub shown : (slot : ℕ) (mapping : Slot) → slot_at parts.maps slot ≡ Some mapping → (mapping.count ≤ MAX_MAPPING_PAGES) × ShowsFile parts.cache mapping
   -- what is pinned is a page of a mapping, so a new mapping begins with none pinned
   pub placed : (slot index : ℕ) → index < MAX_MAPPING_PAGES → pinned_at parts.maps slot index ≡ true → IsPlace parts.maps slot index
@@ -176,6 +179,20 @@ pub record IsFilling (g : GuestState) (cpu page : ℕ) : Type 0 where
   pub tag : Tag
   pub tagged : (info_at g.parts.pages page).tag ≡ Some tag
 
+-- a processor that writes a page back to make room has a command that needs one. The page's tag has a block
+pub record IsPagingOut (g : GuestState) (cpu page : ℕ) : Type 0 where
+  pub cpu_below : cpu < length g.processors
+  pub op : Op
+  pub command : command_of g.plan cpu (processor_at g cpu).place ≡ Some op
+  pub needs : NeedsPage op
+  pub below : page < length g.parts.pages.infos
+  pub owner : (info_at g.parts.pages page).owner ≡ Some cpu
+  pub uptodate : (info_at g.parts.pages page).uptodate ≡ true
+  pub tag : Tag
+  pub tagged : (info_at g.parts.pages page).tag ≡ Some tag
+  pub block : ℕ
+  pub backs : backing_of g.parts.cache tag ≡ Some block
+
 -- a processor whose sync is at a page of its file
 pub record IsSyncing (g : GuestState) (cpu file index : ℕ) : Type 0 where
   pub cpu_below : cpu < length g.processors
@@ -192,19 +209,40 @@ pub record IsWriting (g : GuestState) (cpu index page : ℕ) : Type 0 where
   pub tagged : (info_at g.parts.pages page).tag ≡ Some (File file index)
   pub uptodate : (info_at g.parts.pages page).uptodate ≡ true
 
--- the processor fills the page, or writes it back
+-- the processor fills the page, or writes it back, for a sync or to make room
 abbrev pub HasLocked : GuestState → (cpu page : ℕ) → Type 0
-HasLocked g cpu page = ((processor_at g cpu).phase ≡ Fill page) ⊎ ((index : ℕ) × ((processor_at g cpu).phase ≡ SyncWrite index page))
+HasLocked g cpu page =
+    ((processor_at g cpu).phase ≡ Fill page) ⊎ (((index : ℕ) × ((processor_at g cpu).phase ≡ SyncWrite index page)) ⊎ ((processor_at g cpu).phase ≡ AtRoom page))
 
 -- locks: a page is locked by a processor exactly where that processor fills it or writes it back; a tagged page isn't up to date exactly
 -- where it is filled
 pub record LocksFit (g : GuestState) : Type 0 where
   pub stale_clean : (page : ℕ) → (info_at g.parts.pages page).uptodate ≡ false → (info_at g.parts.pages page).dirty ≡ false
   pub filling : (cpu page : ℕ) → (processor_at g cpu).phase ≡ Fill page → (cpu < length g.processors) × IsFilling g cpu page
+  pub paging_out : (cpu page : ℕ) → (processor_at g cpu).phase ≡ AtRoom page → IsPagingOut g cpu page
   pub syncing : (cpu index : ℕ) → (processor_at g cpu).phase ≡ AtSync index → (file : ℕ) × IsSyncing g cpu file index
   pub writing : (cpu index page : ℕ) → (processor_at g cpu).phase ≡ SyncWrite index page → IsWriting g cpu index page
   pub locked : (cpu page : ℕ) → (info_at g.parts.pages page).owner ≡ Some cpu → HasLocked g cpu page
   pub stale : (page : ℕ) (tag : Tag) → (info_at g.parts.pages page).tag ≡ Some tag → (info_at g.parts.pages page).owner ≡ None → (info_at g.parts.pages page).uptodate ≡ true
+
+-- a processor whose unmap, which has been answered, is at a page of the mapping that was in a slot. The pages before it have no entry
+pub record IsTearing (g : GuestState) (cpu slot index : ℕ) : Type 0 where
+  pub cpu_below : cpu < length g.processors
+  pub number : ℕ
+  pub command : command_of g.plan cpu (processor_at g cpu).place ≡ Some (Unmap number)
+  pub mapping : Slot
+  pub at : slot_at g.parts.maps slot ≡ Some mapping
+  pub torn : mapping.live ≡ false
+  pub its : (mapping.process ≡ process_of g.plan cpu) × (mapping.map ≡ number)
+  pub within : index < mapping.count
+  pub past : (before : ℕ) → before < index → entry_at g.parts.maps slot before ≡ None
+
+-- teardowns: a slot is being torn down exactly where one processor's unmap is at a page of it, and nothing of it is pinned
+pub record TeardownsFit (g : GuestState) : Type 0 where
+  pub tearing : (cpu slot index : ℕ) → (processor_at g cpu).phase ≡ Teardown slot index → IsTearing g cpu slot index
+  pub torn : (slot : ℕ) (mapping : Slot) → slot_at g.parts.maps slot ≡ Some mapping → mapping.live ≡ false → (cpu : ℕ) × (index : ℕ) × ((processor_at g cpu).phase ≡ Teardown slot index)
+  pub alone : (cpu other slot index at : ℕ) → (processor_at g cpu).phase ≡ Teardown slot index → (processor_at g other).phase ≡ Teardown slot at → cpu ≡ other
+  pub unpinned : (slot index : ℕ) (mapping : Slot) → slot_at g.parts.maps slot ≡ Some mapping → mapping.live ≡ false → index < MAX_MAPPING_PAGES → pinned_at g.parts.maps slot index ≡ false
 
 -- hints: every page's usage is its hint, and a volatile page isn't changed
 pub record HintsFit (parts : Parts) (v : StorageView) : Type 0 where
@@ -266,16 +304,25 @@ commands_of plan cpu = of (slice_get plan.cpus cpu)
     of None = 0
     of (Some its) = length its.commands
 
--- how many commands all processors have
-abbrev pub all_commands : GuestPlan → ℕ
-all_commands plan = sum_by (λ cpu. length cpu.commands) plan.cpus
+-- an unmap stands in the journal from its first turn on
+abbrev pub answered_early : Phase → ℕ
+answered_early Start = 0
+answered_early (Fill page) = 0
+answered_early (AtRoom page) = 0
+answered_early (AtSync index) = 0
+answered_early (SyncWrite index page) = 0
+answered_early (Teardown slot index) = 1
 
--- journal: it is legal, and each processor has the entries of the commands before its place
+-- how many entries of a processor stand in the journal: those of the commands before its place, and that of an unmap that it is at
+abbrev pub entries_of : Processor → ℕ
+entries_of processor = processor.place + answered_early processor.phase
+
+-- journal: it is legal, and each processor has the entries of the commands before its place, and that of an unmap that it is at
 pub record JournalFit (g : GuestState) : Type 0 where
   pub legal : Legal g.plan g.journal
-  pub places : (cpu : ℕ) → cpu < length g.processors → (progress_of (walk_of g.plan (start_of g.plan) g.journal) cpu).next ≡ (processor_at g cpu).place
-  pub within : (cpu : ℕ) → cpu < length g.processors → (processor_at g cpu).place ≤ commands_of g.plan cpu
-  pub counted : length g.journal ≡ sum_by (λ processor. processor.place) g.processors
+  pub places : (cpu : ℕ) → cpu < length g.processors → (progress_of (walk_of g.plan (start_of g.plan) g.journal) cpu).next ≡ entries_of (processor_at g cpu)
+  pub within : (cpu : ℕ) → cpu < length g.processors → entries_of (processor_at g cpu) ≤ commands_of g.plan cpu
+  pub counted : length g.journal ≡ sum_by entries_of g.processors
 
 abbrev pub one_if_lost : PageValue → ℕ
 one_if_lost value = of value.contents
@@ -296,6 +343,7 @@ pub record FitAt (state : FlatState) (g : GuestState) (v : StorageView) (d : Dis
   pub entries : EntriesFit g.parts
   pub pins : PinsFit g.parts
   pub locks : LocksFit g
+  pub teardowns : TeardownsFit g
   pub hints : HintsFit g.parts v
   pub contents : ContentsFit g.parts v d
   pub flat : FlatFit state g v d

@@ -42,6 +42,18 @@ entered g cpu op reply =
       processors = slice_set g.processors cpu (record { place = (processor_at g cpu).place + 1; phase = Start });
     }
 
+-- the reply stands in the journal while the processor's command goes on, in this phase
+unfoldable pub answered : GuestState → ℕ → Op → Reply → Phase → GuestState
+answered g cpu op reply phase =
+    record g {
+      journal = g.journal ++ record { cpu = cpu; k = (processor_at g cpu).place; op = op; reply = reply } ∷ [];
+      processors = slice_set g.processors cpu (record { place = (processor_at g cpu).place; phase = phase });
+    }
+
+-- a processor whose command was answered goes on to its next one
+unfoldable pub next_command : GuestState → ℕ → GuestState
+next_command g cpu = with_processor g cpu (record { place = (processor_at g cpu).place + 1; phase = Start })
+
 -- a guest before its first turn: every page is free, nothing is cached, and no command has its reply
 abbrev pub opening_guest : GuestPlan → GuestState
 opening_guest plan = record {
@@ -51,6 +63,7 @@ opening_guest plan = record {
     cache = opening_cache (map (λ file. file.pages) plan.files) plan.swap MAX_MAPPING_SLOTS;
     maps =
         opening_maps plan.pages MAX_MAPPING_SLOTS;
+    hand = 0;
     faults = 0;
   };
   journal = [];

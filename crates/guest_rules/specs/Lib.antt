@@ -2,6 +2,9 @@ pub mod Hint
 pub mod Rows
 pub mod Calls
 pub mod Syncs
+pub mod MakeRoom
+pub mod Wanted
+pub mod Stuck
 pub mod GuestState
 pub mod Turns
 pub mod Alone

@@ -16,6 +16,7 @@ use Rattle.cmm_types.specs.Bytes.{zero_page}
 use Rattle.cmm_storage.specs.Program.{Program, done, take_page, touch_page, order_page, take_change, fetch_page, store_page, put_page, read_block, bind}
 use Rattle.guest_pages.specs.PagesView.{free_info, info_at, with_info, with_uptodate, with_dirty, with_owner, with_pins, with_writers, pushed}
 use Rattle.guest_cache.specs.CacheView.{CacheView, without_page, backing_of}
+use Rattle.guest_maps.specs.declared.slot.Pte.{Pte}
 use Rattle.guest_maps.specs.MapsView.{with_entry, without_entries_of, with_pinned, one_if}
 use Rattle.guest_rules.specs.declared.parts.Parts.{Parts}
 use Rattle.guest_rules.specs.declared.outcome.Gone.{Gone}
@@ -136,6 +137,26 @@ resolve_taken parts page slot index writable (Err busy) = done (parts, PlaceAgai
 -- the entry at a place is set to show a page with the place's tag that isn't locked
 unfoldable pub resolve : Parts → (page slot index : ℕ) → (writable : Bool) → Program (Parts × Placed)
 resolve parts page slot index writable = take_page page (resolve_taken parts page slot index writable)
+
+-- the place has no entry any more
+unfoldable pub unmapped : Parts → (slot index : ℕ) → Pte → Parts
+unmapped parts slot index pte =
+    record parts {
+      pages = with_writers parts.pages pte.page ((info_at parts.pages pte.page).writers - one_if pte.writable);
+      maps = with_entry parts.maps slot index None;
+    }
+
+abbrev pub clear_stable : (slot index : ℕ) → Pte → Parts → Result Unit Gone → Program (Parts × Placed)
+clear_stable slot index pte parts (Ok u) = bind (rehint (unmapped parts slot index pte) pte.page) (λ after. put_page pte.page (done (after, PlaceDone)))
+clear_stable slot index pte parts (Err gone) = put_page pte.page (done (parts, PlaceGone))
+
+abbrev pub clear_taken : Parts → (slot index : ℕ) → Pte → Result Unit Busy → Program (Parts × Placed)
+clear_taken parts slot index pte (Ok u) = bind (make_stable parts pte.page) (λ went. clear_stable slot index pte went.0 went.1)
+clear_taken parts slot index pte (Err busy) = done (parts, PlaceAgain (WasBusy pte.page busy.word))
+
+-- the entry at a place is cleared. Its page may be locked, to be written back: it stays stable then
+unfoldable pub clear_entry : Parts → (slot index : ℕ) → Pte → Program (Parts × Placed)
+clear_entry parts slot index pte = take_page pte.page (clear_taken parts slot index pte)
 
 -- one pin more, or one less
 abbrev pub pins_after : (pins : Bool) → ℕ → ℕ

@@ -8,7 +8,7 @@ use Rattle.cmm_types.specs.declared.plan.FilePlan.{FilePlan}
 use Rattle.cmm_types.specs.declared.command.Op.{Op}
 use Rattle.cmm_types.specs.declared.command.Op.TheVariants.{Read, Write, Sync, MapFile, MapAnon, Unmap, Load, Store, Pin, Unpin}
 use Rattle.cmm_types.specs.declared.command.Reply.TheVariants.{Done as ReplyDone, Bytes, Refused, Fail}
-use Rattle.cmm_types.specs.declared.command.Cause.TheVariants.{NoPage}
+use Rattle.cmm_types.specs.declared.command.Cause.TheVariants.{NoPage as NoPageCause}
 use Rattle.cmm_types.specs.declared.command.FlatRefusal.{FlatRefusal}
 use Rattle.cmm_types.specs.declared.command.FlatRefusal.TheVariants.{NoMapping, AlreadyMapped, OutOfRange, ReadOnly, Pinned, NotPinned, TooManyMaps}
 use Rattle.cmm_types.specs.declared.turn.Turn.{Turn}
@@ -22,23 +22,26 @@ use Rattle.guest_pages.specs.PagesView.{info_at, with_info, popped}
 use Rattle.guest_cache.specs.CacheView.{page_of, with_page}
 use Rattle.guest_maps.specs.declared.slot.Pte.{Pte}
 use Rattle.guest_maps.specs.declared.slot.Shown.{Shown}
-use Rattle.guest_maps.specs.declared.slot.Shown.TheVariants.{File as OfFile}
+use Rattle.guest_maps.specs.declared.slot.Shown.TheVariants.{File as OfFile, Anon as OfItsOwn}
 use Rattle.guest_maps.specs.declared.slot.Slot.{Slot}
-use Rattle.guest_maps.specs.MapsView.{MapsView, slot_at, find_slot, free_slot, live_slots, entry_at, pinned_at, tag_at, is_writable, with_slot_mapped}
+use Rattle.guest_maps.specs.MapsView.{MapsView, slot_at, find_slot, free_slot, live_slots, entry_at, pinned_at, any_pinned, tag_at, is_writable, with_slot_mapped, torn_slot, freed_slot}
 use Rattle.guest_rules.specs.declared.parts.Parts.{Parts}
 use Rattle.guest_rules.specs.declared.processor.Phase.{Phase}
-use Rattle.guest_rules.specs.declared.processor.Phase.TheVariants.{Start, Fill, Sync as AtSync, SyncWrite}
+use Rattle.guest_rules.specs.declared.processor.Phase.TheVariants.{Start, Fill, Room as AtRoom, Sync as AtSync, SyncWrite, Teardown}
 use Rattle.guest_rules.specs.declared.outcome.Filled.{Filled}
 use Rattle.guest_rules.specs.declared.outcome.Filled.TheVariants.{Done as FilledDone, Again as FilledAgain, Fail as FilledFail}
 use Rattle.guest_rules.specs.declared.outcome.Missed.{Missed}
 use Rattle.guest_rules.specs.declared.outcome.Missed.TheVariants.{Gone as MissedGone, Again as MissedAgain, Fail as MissedFail}
-use Rattle.guest_rules.specs.GuestState.{GuestState, processor_at, with_parts, with_phase, entered}
+use Rattle.guest_rules.specs.GuestState.{GuestState, processor_at, with_parts, with_phase, entered, answered, next_command}
 use Rattle.guest_rules.specs.declared.outcome.Placed.{Placed}
 use Rattle.guest_rules.specs.declared.outcome.Placed.TheVariants.{Done as PlaceDone, Gone as PlaceGone, Again as PlaceAgain}
-use Rattle.guest_rules.specs.Rows.{read_page, write_page, load_page, store_through, resolve, fill, pin_page}
+use Rattle.guest_rules.specs.Rows.{read_page, write_page, load_page, store_through, resolve, fill, pin_page, clear_entry}
 use Rattle.guest_rules.specs.declared.outcome.Synced.{Synced}
 use Rattle.guest_rules.specs.declared.outcome.Synced.TheVariants.{Clean, Locked, Gone as SyncGone, Waits as IsLocked, Again as SyncAgain}
 use Rattle.guest_rules.specs.Syncs.{sync_page, write_back}
+use Rattle.guest_rules.specs.declared.outcome.Room.{Room}
+use Rattle.guest_rules.specs.declared.outcome.Room.TheVariants.{Freed, Locked as RoomLocked, Waits as RoomWaits, NoPage, Again as RoomAgain}
+use Rattle.guest_rules.specs.MakeRoom.{make_room}
 
 -- the pages of a file; none where there is no such file
 abbrev pub file_pages : List FilePlan → ℕ → ℕ
@@ -89,7 +92,12 @@ refusal_of_pin_at maps pins index None = Some NoMapping
 refusal_of_pin_at maps pins index (Some slot) =
     if nat_lt index (mapping_pages (slot_at maps slot)) then refusal_of_pin pins (pinned_at maps slot index) else Some OutOfRange
 
--- why a command of a process is refused, as the tables say. Mappings of pages of their own, and the ends of mappings, aren't built yet
+-- a mapping ends only where none of its pages is pinned
+abbrev pub refusal_of_unmap : MapsView → Option ℕ → Option FlatRefusal
+refusal_of_unmap maps None = Some NoMapping
+refusal_of_unmap maps (Some slot) = if any_pinned maps slot then Some Pinned else None
+
+-- why a command of a process is refused, as the tables say. Mappings of pages of their own aren't built yet
 abbrev pub refusal_in : GuestState → (process : ℕ) → Op → Option FlatRefusal
 refusal_in g process (Read file off len) = if file_has_bytes g.plan.files file off len then None else Some OutOfRange
 refusal_in g process (Write file off bytes) = if file_has_bytes g.plan.files file off (length bytes) then None else Some OutOfRange
@@ -100,7 +108,7 @@ refusal_in g process (Pin number index) = refusal_of_pin_at g.parts.maps true in
 refusal_in g process (Unpin number index) = refusal_of_pin_at g.parts.maps false index (find_slot g.parts.maps process number)
 refusal_in g process (Sync file) = if nat_lt file (length g.plan.files) then None else Some OutOfRange
 refusal_in g process (MapAnon number count) = None
-refusal_in g process (Unmap number) = None
+refusal_in g process (Unmap number) = refusal_of_unmap g.parts.maps (find_slot g.parts.maps process number)
 
 -- a free page gets a tag, and is locked by the processor that is to fill it
 unfoldable pub begun : Parts → ℕ → Tag → ℕ → Parts
@@ -188,9 +196,20 @@ hit_turn g cpu (Unmap number) page = done (g, Idle)
 hit_turn g cpu (Pin number index) page = done (g, Idle)
 hit_turn g cpu (Unpin number index) page = done (g, Idle)
 
--- no page has the tag. There is always a free one: the files' pages together are at most the guest's
+abbrev pub room_next : GuestState → ℕ → Op → Parts → Room → Program (GuestState × Turn)
+room_next g cpu op parts Freed = done (with_parts g parts, Moved)
+room_next g cpu op parts (RoomLocked page) = done (with_phase (with_parts g parts) cpu (AtRoom page), Moved)
+room_next g cpu op parts (RoomWaits page owner) = done (with_parts g parts, Waits page owner)
+room_next g cpu op parts (NoPage pinned unslotted) = done (entered (with_parts g parts) cpu op (Fail (NoPageCause pinned unslotted)), Finished)
+room_next g cpu op parts (RoomAgain why) = done (with_parts g parts, Again why)
+
+-- no page is free
+unfoldable pub room_turn : GuestState → ℕ → Op → Program (GuestState × Turn)
+room_turn g cpu op = bind (make_room g.parts cpu) (λ went. room_next g cpu op went.0 went.1)
+
+-- no page has the tag
 abbrev pub start_free : GuestState → ℕ → Op → Tag → List ℕ → Program (GuestState × Turn)
-start_free g cpu op tag [] = done (entered g cpu op (Fail (NoPage 0 g.plan.pages)), Finished)
+start_free g cpu op tag [] = room_turn g cpu op
 start_free g cpu op tag (page ∷ rest) = begin_turn g cpu tag page
 
 abbrev pub start_locked : GuestState → ℕ → Op → ℕ → Option ℕ → Program (GuestState × Turn)
@@ -229,6 +248,40 @@ abbrev pub map_turn : GuestState → ℕ → Op → (number : ℕ) → Shown →
 map_turn g cpu op number shown count None = done (g, Idle)
 map_turn g cpu op number shown count (Some slot) =
     done (entered (with_parts g (record g.parts { maps = with_slot_mapped g.parts.maps slot (process_of g.plan cpu) number shown count })) cpu op ReplyDone, Finished)
+
+-- the mapping ends: the unmap is answered here, and the slot's pages are taken off one after another
+abbrev pub unmap_turn : GuestState → ℕ → Op → Option ℕ → Program (GuestState × Turn)
+unmap_turn g cpu op None = done (g, Idle)
+unmap_turn g cpu op (Some slot) = done (answered (with_parts g (record g.parts { maps = torn_slot g.parts.maps slot })) cpu op ReplyDone (Teardown slot 0), Moved)
+
+-- an unmap goes on behind page `index` of its slot's mapping, which has so many pages; behind the last the slot is free
+abbrev pub torn_past : GuestState → (cpu slot index count : ℕ) → GuestState × Turn
+torn_past g cpu slot index count =
+    if nat_lt (index + 1) count
+    then (with_phase g cpu (Teardown slot (index + 1)), Moved)
+    else (next_command (with_parts g (record g.parts { maps = freed_slot g.parts.maps slot })) cpu, Finished)
+
+abbrev pub torn_next : GuestState → (cpu slot index count : ℕ) → Parts → Placed → Program (GuestState × Turn)
+torn_next g cpu slot index count parts PlaceDone = done (torn_past (with_parts g parts) cpu slot index count)
+torn_next g cpu slot index count parts PlaceGone = done (torn_past (with_parts g parts) cpu slot index count)
+torn_next g cpu slot index count parts (PlaceAgain why) = done (with_parts g parts, Again why)
+
+abbrev pub teardown_entry : GuestState → (cpu slot index count : ℕ) → Option Pte → Program (GuestState × Turn)
+teardown_entry g cpu slot index count None = done (torn_past g cpu slot index count)
+teardown_entry g cpu slot index count (Some pte) = bind (clear_entry g.parts slot index pte) (λ went. torn_next g cpu slot index count went.0 went.1)
+
+-- mappings of pages of their own aren't built yet
+abbrev pub teardown_shown : GuestState → (cpu slot index count : ℕ) → Shown → Program (GuestState × Turn)
+teardown_shown g cpu slot index count (OfFile file first writable) = teardown_entry g cpu slot index count (entry_at g.parts.maps slot index)
+teardown_shown g cpu slot index count OfItsOwn = done (g, Idle)
+
+abbrev pub teardown_in : GuestState → (cpu slot index : ℕ) → Option Slot → Program (GuestState × Turn)
+teardown_in g cpu slot index None = done (g, Idle)
+teardown_in g cpu slot index (Some mapping) = teardown_shown g cpu slot index mapping.count mapping.shown
+
+-- page `index` of the mapping that is torn down in a slot is taken off
+unfoldable pub teardown_turn : GuestState → (cpu slot index : ℕ) → Program (GuestState × Turn)
+teardown_turn g cpu slot index = teardown_in g cpu slot index (slot_at g.parts.maps slot)
 
 -- a sync goes on behind page `index` of its file, which has so many pages, or is done
 abbrev pub passed : GuestState → ℕ → Op → (pages index : ℕ) → GuestState × Turn
@@ -277,7 +330,7 @@ write_back_turn g cpu (Store number off bytes) index page = done (g, Idle)
 write_back_turn g cpu (Pin number at) index page = done (g, Idle)
 write_back_turn g cpu (Unpin number at) index page = done (g, Idle)
 
--- a command that isn't refused. Mappings of pages of their own, and the ends of mappings, aren't built yet
+-- a command that isn't refused. Mappings of pages of their own aren't built yet
 abbrev pub start_accepted : GuestState → ℕ → Op → Program (GuestState × Turn)
 start_accepted g cpu (Read file off len) = start_tagged g cpu (Read file off len) (FileTag file (off / PAGE))
 start_accepted g cpu (Write file off bytes) = start_tagged g cpu (Write file off bytes) (FileTag file (off / PAGE))
@@ -289,7 +342,7 @@ start_accepted g cpu (Pin number index) = start_placed g cpu (Pin number index) 
 start_accepted g cpu (Unpin number index) = start_placed g cpu (Unpin number index) index (find_slot g.parts.maps (process_of g.plan cpu) number)
 start_accepted g cpu (Sync file) = sync_turn g cpu (Sync file) 0
 start_accepted g cpu (MapAnon number count) = done (g, Idle)
-start_accepted g cpu (Unmap number) = done (g, Idle)
+start_accepted g cpu (Unmap number) = unmap_turn g cpu (Unmap number) (find_slot g.parts.maps (process_of g.plan cpu) number)
 
 abbrev pub start_refused : GuestState → ℕ → Op → Option FlatRefusal → Program (GuestState × Turn)
 start_refused g cpu op (Some refusal) = done (entered g cpu op (Refused refusal), Finished)
@@ -308,11 +361,17 @@ fill_next g cpu op parts (FilledFail cause) = done (entered (with_parts g parts)
 unfoldable pub fill_turn : GuestState → ℕ → Op → ℕ → Program (GuestState × Turn)
 fill_turn g cpu op page = bind (fill g.parts page) (λ went. fill_next g cpu op went.0 went.1)
 
+-- the turn of a processor that writes a page back to make room. The processor looks at its command again where this is done
+unfoldable pub page_out_turn : GuestState → ℕ → Op → ℕ → Program (GuestState × Turn)
+page_out_turn g cpu op page = bind (write_back g.parts page) (λ went. fill_next g cpu op went.0 went.1)
+
 abbrev pub turn_in : GuestState → ℕ → Op → Phase → Program (GuestState × Turn)
 turn_in g cpu op Start = start_turn g cpu op
 turn_in g cpu op (Fill page) = fill_turn g cpu op page
+turn_in g cpu op (AtRoom page) = page_out_turn g cpu op page
 turn_in g cpu op (AtSync index) = sync_turn g cpu op index
 turn_in g cpu op (SyncWrite index page) = write_back_turn g cpu op index page
+turn_in g cpu op (Teardown slot index) = teardown_turn g cpu slot index
 
 abbrev pub turn_on : GuestState → ℕ → Option Op → Program (GuestState × Turn)
 turn_on g cpu None = done (g, Idle)

@@ -10,14 +10,16 @@ ghost use Rattle.cmm_io.specs.DiskView.{DiskView};
 ghost use Rattle.cmm_storage.specs.StorageView.{StorageView};
 ghost use Rattle.cmm_storage.specs.Views.{Seen};
 ghost use Rattle.guest_pages.specs.PagesView.{info_at};
-ghost use Rattle.guest_rules.specs.declared.processor.Phase.TheVariants.{Fill, SyncWrite};
+ghost use Rattle.guest_maps.specs.declared.slot.Pte.{Pte};
+ghost use Rattle.guest_maps.specs.MapsView.{entry_at};
+ghost use Rattle.guest_rules.specs.declared.processor.Phase.TheVariants.{Fill, Room, SyncWrite, Teardown};
 ghost use Rattle.guest_rules.specs.GuestState.{GuestState, opening_guest, processor_at};
 ghost use Rattle.guest_rules.specs.Turns.{turn};
 ghost use Rattle.guest_rules.specs.Alone.{alone};
 ghost use Rattle.guest_rules.specs.Fit.{Fit};
 ghost use Rattle.guest_rules.specs.Meanwhile.{AllMay};
 ghost use Rattle.guest_rules.specs.Failures.{FailuresFit};
-ghost use Rattle.guest_rules.specs.Answers.{HasBeenFilled, IsToBeFilled, IsToBeWritten};
+ghost use Rattle.guest_rules.specs.Answers.{HasBeenFilled, IsToBeFilled, IsToBeWritten, CanBeWrittenOut};
 
 /// What the host does between two turns of a guest leaves it fit.
 pub fn host_leaves_guests_fit()
@@ -35,7 +37,8 @@ pub fn failed_commands_are_counted()
 {}
 
 /// What the calls on one page ask of it, to say in words what they leave, stands between any two turns: of a page that is
-/// up to date, of one that a processor fills, and of one that a processor writes back.
+/// up to date, which may also be the one that goes to make room, of one that a processor fills, of one that a processor
+/// writes back, for a sync or to make room, and of one whose entry an unmap clears.
 pub fn pages_are_ready_between_turns()
     ensures filled { (g : GuestState) (v : StorageView) (d : DiskView) (page : ℕ) (tag : Tag) → Fit g v d → page < length g.parts.pages.infos
         → (info_at g.parts.pages page).tag ≡ Some tag → (info_at g.parts.pages page).uptodate ≡ true → HasBeenFilled g.parts page v }
@@ -43,4 +46,10 @@ pub fn pages_are_ready_between_turns()
         → Fit g v d → (processor_at g cpu).phase ≡ Fill page → IsToBeFilled g.parts page v d }
     ensures writes { (g : GuestState) (v : StorageView) (d : DiskView) (cpu index page : ℕ)
         → Fit g v d → (processor_at g cpu).phase ≡ SyncWrite index page → IsToBeWritten g.parts page v }
+    ensures may_go { (g : GuestState) (v : StorageView) (d : DiskView) (page : ℕ) (tag : Tag) → Fit g v d → page < length g.parts.pages.infos
+        → (info_at g.parts.pages page).tag ≡ Some tag → (info_at g.parts.pages page).uptodate ≡ true → CanBeWrittenOut g.parts page v }
+    ensures pages_out { (g : GuestState) (v : StorageView) (d : DiskView) (cpu page : ℕ)
+        → Fit g v d → (processor_at g cpu).phase ≡ Room page → IsToBeWritten g.parts page v }
+    ensures clears { (g : GuestState) (v : StorageView) (d : DiskView) (cpu slot index : ℕ) (pte : Pte) → Fit g v d
+        → (processor_at g cpu).phase ≡ Teardown slot index → entry_at g.parts.maps slot index ≡ Some pte → HasBeenFilled g.parts pte.page v }
 {}

@@ -10,6 +10,6 @@ mod processor;
 pub use laws::{
     failed_commands_are_counted, host_leaves_guests_fit, pages_are_ready_between_turns,
 };
-pub use outcome::{Filled, Gone, Missed, Placed, Synced};
+pub use outcome::{Filled, Gone, Missed, Placed, Room, Synced};
 pub use parts::Parts;
 pub use processor::{Phase, Processor};

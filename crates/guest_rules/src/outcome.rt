@@ -52,3 +52,18 @@ pub enum Synced {
     /// The turn has to be taken again.
     Again { why: Why },
 }
+
+/// What became of a page that was to make room.
+#[derive(Clone, Copy, Debug, PartialEq, Eq)]
+pub enum Room {
+    /// One page more is free now.
+    Freed,
+    /// The page that is to go is dirty. It is locked by the processor, to be written back.
+    Locked { page: u32 },
+    /// No page can go, and of those that are locked this is the next. Another processor has locked it.
+    Waits { page: u32, owner: u32 },
+    /// No page can go and none is locked: so many are pinned, and all others hold bytes for which there is no swap slot.
+    NoPage { pinned: u32, unslotted: u32 },
+    /// The turn has to be taken again.
+    Again { why: Why },
+}

@@ -11,6 +11,8 @@ pub struct Parts {
     pub cache: Cache,
     /// What is mapped, and which entry shows which page.
     pub maps: Maps,
+    /// Where the next look for a page that can make room begins.
+    pub hand: u32,
     /// How many discarded pages were handled. The count stands still at its type's end.
     pub faults: u64,
 }

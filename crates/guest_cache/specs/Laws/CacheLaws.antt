@@ -1,9 +1,10 @@
 -- Laws of the places of tags, for the crates that keep an index of them.
-use Rattle.std.proofs.Common.{◌≡◌, ◌≢◌, ℕ, ◌+◌, ◌*◌, ◌<◌, ◌≤◌, List, length, take, sum, get_or, slice_set, slice_index_or, Option, None, Some, refl, ap, ◌∙◌, subst, ⊎_elim, arith}
+use Rattle.std.proofs.Common.{◌≡◌, ◌≢◌, ℕ, ◌+◌, ◌*◌, ◌<◌, ◌≤◌, ◌==◌, true, false, List, length, take, sum, get_or, slice_set, slice_index_or, Option, None, Some, refl, ap, sym, ◌∙◌, subst, ⊎_elim, arith}
 use Rattle.std.proofs.lemmas.List.{length-replicate, get_or-set_same, get_or-set_other, get_or-replicate, take-take}
 use Rattle.std.proofs.lemmas.List.Sums.{sum_by_more, sum_by-take-le}
 use Rattle.std.proofs.lemmas.List.Quantifiers.{position-Some}
-use Rattle.std.proofs.lemmas.Bool.{cases_order}
+use Rattle.std.proofs.lemmas.Bool.{cases_order, and_parts, eqb-true}
+use Rattle.std.proofs.lemmas.Bool.Decides.{nat_tests}
 use Rattle.cmm_types.specs.declared.command.TheConstants.{MAX_MAPPING_PAGES}
 use Rattle.cmm_types.specs.declared.page.Tag.{Tag}
 use Rattle.cmm_types.specs.declared.page.Tag.TheVariants.{File, Anon}
@@ -115,6 +116,40 @@ backing_of-below cache (Anon slot index) block is at = of (swap_slot cache (Anon
     of : (found : Option ℕ) → swap_slot cache (Anon slot index) ≡ found → swap_block cache.files found ≡ Some block → block < sum cache.files + length cache.swap
     of None none at = let bad : None ≡ Some block = at in absurd cc
     of (Some number) found at = omega (arith, (position-Some (holds_page slot index) cache.swap number None found).0, some_exact _ _ at)
+
+-- a swap slot that is assigned to a page is assigned to no other
+pub holds-itself : (slot index : ℕ) → holds_page slot index (Some (Anon slot index)) ≡ true
+holds-itself slot index = grind (arith, nat_tests)
+
+pub holds-exact : (s t i j : ℕ) (o : Option Tag) → holds_page s i o ≡ true → holds_page t j o ≡ true → (s ≡ t) × (i ≡ j)
+holds-exact s t i j None one two = let bad : false ≡ true = one in absurd cc
+holds-exact s t i j (Some (File file at)) one two = let bad : false ≡ true = one in absurd cc
+holds-exact s t i j (Some (Anon slot at)) one two =
+    let first = and_parts (s == slot) (i == at) one in
+    let second = and_parts (t == slot) (j == at) two in
+    (eqb-true s slot first.0 ∙ sym (eqb-true t slot second.0), eqb-true i at first.1 ∙ sym (eqb-true j at second.1))
+
+swap_block-exact : (files : List ℕ) (number : Option ℕ) (block : ℕ) → swap_block files number ≡ Some block → (n : ℕ) × (number ≡ Some n) × (sum files + n ≡ block)
+swap_block-exact files None block at = let bad : None ≡ Some block = at in absurd cc
+swap_block-exact files (Some n) block at = (n, refl, some_exact _ _ at)
+
+-- two tags have two blocks
+pub block_exact : (cache : CacheView) (t u : Tag) (block : ℕ) → IsTag cache t → IsTag cache u → backing_of cache t ≡ Some block → backing_of cache u ≡ Some block → t ≡ u
+block_exact cache (File f i) (File g j) block is_t is_u at_t at_u = place_exact cache (File f i) (File g j) is_t is_u (some_exact _ _ at_t ∙ sym (some_exact _ _ at_u))
+block_exact cache (File f i) (Anon s j) block is_t is_u at_t at_u =
+    let k = swap_block-exact cache.files (swap_slot cache (Anon s j)) block at_u in
+    absurd (omega (arith, before_all cache.files f i is_t.0 is_t.1, some_exact _ _ at_t, k.2))
+block_exact cache (Anon s i) (File g j) block is_t is_u at_t at_u =
+    let k = swap_block-exact cache.files (swap_slot cache (Anon s i)) block at_t in
+    absurd (omega (arith, before_all cache.files g j is_u.0 is_u.1, some_exact _ _ at_u, k.2))
+block_exact cache (Anon s i) (Anon t j) block is_t is_u at_t at_u =
+    let k = swap_block-exact cache.files (swap_slot cache (Anon s i)) block at_t in
+    let m = swap_block-exact cache.files (swap_slot cache (Anon t j)) block at_u in
+    let same : m.0 ≡ k.0 = omega (arith, k.2, m.2) in
+    let one = (position-Some (holds_page s i) cache.swap k.0 None k.1).1 in
+    let two = (position-Some (holds_page t j) cache.swap k.0 None (m.1 ∙ ap Some same)).1 in
+    let both = holds-exact s t i j (get_or cache.swap k.0 None) one two in
+    ap (λ (n : ℕ). Anon n i) both.0 ∙ ap (Anon t) both.1
 
 -- ---- a cache in which a swap slot is assigned, or isn't any more
 

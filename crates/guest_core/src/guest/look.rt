@@ -19,9 +19,9 @@ ghost use Rattle.guest_core.specs.Between.{CanEnter, CanLookUp, IsFit, serving};
 
 use super::Guest;
 use crate::plans::file_has_bytes;
-use crate::refusals::{refusal_at, refusal_of_pin_at};
+use crate::refusals::{refusal_at, refusal_of_pin_at, refusal_of_unmap};
 use cmm_storage::Storage;
-use cmm_types::{Cause, FlatRefusal, MAX_LIVE_MAPPINGS, Op, PAGE, Reply, Tag, Turn};
+use cmm_types::{FlatRefusal, MAX_LIVE_MAPPINGS, Op, PAGE, Reply, Tag, Turn};
 use guest_maps::{Pte, Shown, Spot};
 
 /// The page of an entry that serves a load, or a store where it `writes`.
@@ -81,13 +81,7 @@ impl Guest {
     {
         match self.page_with(tag) {
             None => match self.next_free() {
-                None => {
-                    let reply = Reply::Fail(Cause::NoPage {
-                        pinned: 0,
-                        unslotted: self.plan.pages,
-                    });
-                    self.finish(cpu, op, reply)
-                }
+                None => self.room_turn(cpu, st, op),
                 Some(page) => self.begin_turn(cpu, st, tag, page),
             },
             Some(page) => match self.info(page).owner {
@@ -97,8 +91,16 @@ impl Guest {
         }
     }
 
+    /// A place of a mapping; `None` where the mapping in the slot has no such page.
+    pub(super) fn place(&self, slot: u32, index: u32) -> Option<Spot>
+        requires { slot < length self.now.parts.maps.slots }
+        ensures { result ≡ spot_at self.now.parts.maps slot index }
+    {
+        self.parts.maps.spot(slot, index)
+    }
+
     /// A place of a mapping that has it.
-    fn spot(&self, slot: u32, index: u32) -> Spot
+    pub(super) fn spot(&self, slot: u32, index: u32) -> Spot
         requires slot { slot < length self.now.parts.maps.slots }
         requires there { IsSome (spot_at self.now.parts.maps slot index) }
         ensures { spot_at self.now.parts.maps slot index ≡ Some result }
@@ -244,7 +246,8 @@ impl Guest {
             Op::Pin { map, page } => self.start_placed(cpu, st, op, *map, *page),
             Op::Unpin { map, page } => self.start_placed(cpu, st, op, *map, *page),
             Op::Sync { file } => self.sync_turn(cpu, st, op, *file, 0),
-            Op::MapAnon { .. } | Op::Unmap { .. } => Turn::Idle,
+            Op::Unmap { map } => self.unmap_turn(cpu, op, *map),
+            Op::MapAnon { .. } => Turn::Idle,
         }
     }
 
@@ -318,7 +321,8 @@ impl Guest {
                     Some(FlatRefusal::OutOfRange)
                 }
             }
-            Op::MapAnon { .. } | Op::Unmap { .. } => None,
+            Op::Unmap { map } => refusal_of_unmap(maps, process, *map),
+            Op::MapAnon { .. } => None,
         }
     }
 

@@ -127,7 +127,7 @@ position-set_other slots place process number slot was is = position_kept (is_ma
 
 -- ---- a slot is set to one that isn't live
 
-unlive_apart : (slots : List (Option Slot)) (place : ℕ) (slot : Option Slot) → is_live_slot slot ≡ false → (k process number : ℕ)
+pub unlive_apart : (slots : List (Option Slot)) (place : ℕ) (slot : Option Slot) → is_live_slot slot ≡ false → (k process number : ℕ)
     → is_mapping process number (get_or (set slots place slot) k None) ≡ true
     → (k ≢ place) × (is_mapping process number (get_or slots k None) ≡ true)
 unlive_apart slots place slot not_live k process number passes =

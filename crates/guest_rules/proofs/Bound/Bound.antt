@@ -6,17 +6,19 @@ use Rattle.cmm_types.specs.declared.turn.Turn.TheVariants.{Moved, Finished, Wait
 use Rattle.cmm_types.specs.declared.turn.Alone.{Alone}
 use Rattle.cmm_types.specs.declared.turn.Alone.TheVariants.{Finished as AloneFinished, Waits as AloneWaits, Idle as AloneIdle}
 use Rattle.cmm_types.specs.declared.plan.TheConstants.{MAX_FILE_PAGES}
-use Rattle.cmm_types.specs.declared.plan.GuestPlan.{GuestPlan}
-use Rattle.cmm_types.specs.InRange.{GuestInRange}
 use Rattle.cmm_types.specs.declared.command.Op.{Op}
 use Rattle.cmm_types.specs.declared.command.Op.TheVariants.{Read, Write, Sync, MapFile, MapAnon, Unmap, Load, Store, Pin, Unpin}
-use Rattle.cmm_flat.specs.Legal.{command_of}
+use Rattle.cmm_flat.specs.Legal.{command_of, process_of}
 use Rattle.cmm_io.specs.DiskView.{DiskView}
 use Rattle.cmm_storage.specs.StorageView.{StorageView}
 use Rattle.cmm_storage.specs.Views.{Seen, unbind, seen-keeps}
+use Rattle.guest_maps.specs.declared.slot.Slot.{Slot}
+use Rattle.guest_maps.specs.MapsView.{slot_at, find_slot}
+use Rattle.guest_rules.specs.declared.processor.Phase.{Phase}
+use Rattle.guest_rules.specs.declared.processor.Phase.TheVariants.{Start, Fill, Room as AtRoom, Sync as AtSync, SyncWrite, Teardown}
 use Rattle.guest_rules.specs.GuestState.{GuestState, processor_at}
-use Rattle.guest_rules.specs.Turns.{file_pages, turn}
-use Rattle.guest_rules.specs.Alone.{alone, alone_within, alone_after, turns_of, most_turns}
+use Rattle.guest_rules.specs.Turns.{file_pages, mapping_pages, turn}
+use Rattle.guest_rules.specs.Alone.{alone, alone_within, alone_after, found_pages, pages_to_tear, turns_of, most_turns}
 use Rattle.guest_rules.specs.Fit.{Fit}
 use Rattle.guest_rules.specs.Cause.{TurnCause, AloneCause, LastTurn, MayTake, HasMoved}
 use Rattle.guest_rules.proofs.Cases.TurnCases.{TurnCase}
@@ -25,6 +27,7 @@ use Rattle.guest_rules.proofs.Causes.TurnCauses.{turn_causes}
 use Rattle.guest_rules.proofs.Cases.FileSizes.{file_pages-most}
 use Rattle.guest_rules.proofs.Bound.Ranks.{Rank, no_command, has_command, rank_some, command_rank}
 use Rattle.guest_rules.proofs.Bound.Steps.{rank_step, never_again}
+use Rattle.guest_rules.proofs.Bound.TurnsKept.{turns_kept}
 use Rattle.guest_rules.proofs.Causes.PlanKept.{plan_kept}
 
 -- a turn keeps what stands between turns
@@ -37,6 +40,7 @@ KeepsFit =
 record Onward (g : GuestState) (cpu : ℕ) (h : GuestState) : Type 0 where
   moved : HasMoved g cpu h
   plan : h.plan ≡ g.plan
+  turns : (op : Op) → command_of g.plan cpu (processor_at g cpu).place ≡ Some op → turns_of h cpu op ≡ turns_of g cpu op
 
 -- a command of the later moment is the one of the earlier
 command_before : (g h : GuestState) (cpu : ℕ) → Onward g cpu h → command_of h.plan cpu (processor_at h cpu).place ≡ command_of g.plan cpu (processor_at g cpu).place
@@ -44,10 +48,11 @@ command_before g h cpu on = ap (λ q. command_of q cpu (processor_at h cpu).plac
 
 -- a command may take as many turns before a turn that moved as after it
 may_take_before : (g h : GuestState) (cpu turns : ℕ) → Onward g cpu h → MayTake h cpu turns → MayTake g cpu turns
-may_take_before g h cpu turns on few op command = subst (λ q. turns ≤ turns_of q op) on.plan (few op (command_before g h cpu on ∙ command))
+may_take_before g h cpu turns on few op command = subst (λ n. turns ≤ n) (on.turns op command) (few op (command_before g h cpu on ∙ command))
 
 may_take_next : (g h : GuestState) (cpu turns : ℕ) → Onward g cpu h → MayTake g cpu turns → MayTake h cpu turns
-may_take_next g h cpu turns on few op command = subst (λ q. turns ≤ turns_of q op) (sym on.plan) (few op (sym (command_before g h cpu on) ∙ command))
+may_take_next g h cpu turns on few op command =
+    let before = sym (command_before g h cpu on) ∙ command in subst (λ n. turns ≤ n) (sym (on.turns op before)) (few op before)
 
 -- why a processor stopped, after so many turns that moved before
 abbrev StopsAfter : (turns : ℕ) → GuestState → StorageView → DiskView → ℕ → Alone → GuestState → StorageView → DiskView → Type 0
@@ -79,7 +84,7 @@ at_once : (g i : GuestState) (v w : StorageView) (d e : DiskView) (cpu : ℕ) (t
 at_once g i v w d e cpu t cause = record { guest = g; storage = v; disk = d; before = (refl, refl, refl); last = cause }
 
 few_now : (g : GuestState) (cpu turns left : ℕ) → MayTake g cpu (turns + suc left) → MayTake g cpu (turns + 1)
-few_now g cpu turns left few op command = fewer turns left (turns_of g.plan op) (few op command)
+few_now g cpu turns left few op command = fewer turns left (turns_of g cpu op) (few op command)
   where
     fewer : (turns left most : ℕ) → turns + suc left ≤ most → turns + 1 ≤ most
     fewer turns left most h = omega (arith, h)
@@ -90,7 +95,8 @@ after_turn : (g h i : GuestState) (v m w : StorageView) (d y e : DiskView) (cpu 
     → (Rank h m cpu left → MayTake h cpu (turns + suc left) → Seen {A = GuestState × Alone} (alone_within fuel (turns + 1) h cpu) m y (i, a) w e → StopsAfter (turns + 1) h m y cpu a i w e)
     → Seen {A = GuestState × Alone} (alone_after (λ q. alone_within fuel (turns + 1) q cpu) turns h t) m y (i, a) w e → StopsAfter turns g v d cpu a i w e
 after_turn g h i v m w d y e cpu fuel left turns Moved a f quiet case cause rank few next run =
-    let on : Onward g cpu h = record { moved = cause.answer.0; plan = plan_kept g v m d y cpu h Moved case } in
+    let plan = plan_kept g v m d y cpu h Moved case in
+    let on : Onward g cpu h = record { moved = cause.answer.0; plan = plan; turns = λ op command. turns_kept g v m d y cpu op h f command plan case } in
     stop_before turns g h i v m w d y e cpu a on cause (next (rank_step g v m d y cpu left h f quiet case rank) (may_take_next g h cpu (turns + suc left) on few) run)
 after_turn g h i v m w d y e cpu fuel left turns Finished a f quiet case cause rank few next (ea, em, ed) =
     let ei : i ≡ h = ap (λ q. q.0) ea in
@@ -117,24 +123,44 @@ unfolding most_turns
 some_turns = omega arith
 
 -- no command takes more turns than there are
-sync_turns : (pages : ℕ) → pages ≤ MAX_FILE_PAGES → 12 + 3 * pages ≤ most_turns
+paged_turns : (pages : ℕ) → pages ≤ MAX_FILE_PAGES → 12 + 3 * pages ≤ most_turns
 unfolding most_turns
-sync_turns pages h = omega (arith, h)
+paged_turns pages h = omega (arith, h)
 
 twelve : 12 ≤ most_turns
-twelve = omega (arith, sync_turns 0 (omega arith))
+twelve = omega (arith, paged_turns 0 (omega arith))
 
-turns_of-most : (plan : GuestPlan) (op : Op) → GuestInRange plan → turns_of plan op ≤ most_turns
-turns_of-most plan (Sync file) range = sync_turns (file_pages plan.files file) (file_pages-most plan.files file range.files.each)
-turns_of-most plan (Read file off len) range = twelve
-turns_of-most plan (Write file off bytes) range = twelve
-turns_of-most plan (MapFile number file first count writable) range = twelve
-turns_of-most plan (MapAnon number count) range = twelve
-turns_of-most plan (Unmap number) range = twelve
-turns_of-most plan (Load number off len) range = twelve
-turns_of-most plan (Store number off bytes) range = twelve
-turns_of-most plan (Pin number index) range = twelve
-turns_of-most plan (Unpin number index) range = twelve
+-- no mapping has more pages than a file may have
+mapping_pages-most : (g : GuestState) (v : StorageView) (d : DiskView) (slot : ℕ) → Fit g v d → mapping_pages (slot_at g.parts.maps slot) ≤ MAX_FILE_PAGES
+mapping_pages-most g v d slot f = of (slot_at g.parts.maps slot) refl
+  where
+    of : (o : Option Slot) → slot_at g.parts.maps slot ≡ o → mapping_pages o ≤ MAX_FILE_PAGES
+    of None e = omega arith
+    of (Some mapping) e = omega (arith, (f.slots.shown slot mapping e).0)
+
+found_pages-most : (g : GuestState) (v : StorageView) (d : DiskView) (found : Option ℕ) → Fit g v d → found_pages g.parts.maps found ≤ MAX_FILE_PAGES
+found_pages-most g v d None f = omega arith
+found_pages-most g v d (Some slot) f = mapping_pages-most g v d slot f
+
+pages_to_tear-most : (g : GuestState) (v : StorageView) (d : DiskView) (cpu number : ℕ) (phase : Phase) → Fit g v d → pages_to_tear g cpu number phase ≤ MAX_FILE_PAGES
+pages_to_tear-most g v d cpu number Start f = found_pages-most g v d (find_slot g.parts.maps (process_of g.plan cpu) number) f
+pages_to_tear-most g v d cpu number (Teardown slot index) f = mapping_pages-most g v d slot f
+pages_to_tear-most g v d cpu number (Fill page) f = omega arith
+pages_to_tear-most g v d cpu number (AtRoom page) f = omega arith
+pages_to_tear-most g v d cpu number (AtSync index) f = omega arith
+pages_to_tear-most g v d cpu number (SyncWrite index page) f = omega arith
+
+turns_of-most : (g : GuestState) (v : StorageView) (d : DiskView) (cpu : ℕ) (op : Op) → Fit g v d → turns_of g cpu op ≤ most_turns
+turns_of-most g v d cpu (Sync file) f = paged_turns (file_pages g.plan.files file) (file_pages-most g.plan.files file f.sizes.range.files.each)
+turns_of-most g v d cpu (Unmap number) f = paged_turns (pages_to_tear g cpu number (processor_at g cpu).phase) (pages_to_tear-most g v d cpu number (processor_at g cpu).phase f)
+turns_of-most g v d cpu (Read file off len) f = twelve
+turns_of-most g v d cpu (Write file off bytes) f = twelve
+turns_of-most g v d cpu (MapFile number file first count writable) f = twelve
+turns_of-most g v d cpu (MapAnon number count) f = twelve
+turns_of-most g v d cpu (Load number off len) f = twelve
+turns_of-most g v d cpu (Store number off bytes) f = twelve
+turns_of-most g v d cpu (Pin number index) f = twelve
+turns_of-most g v d cpu (Unpin number index) f = twelve
 
 -- a processor with so many turns left stops within them
 stops_within : KeepsFit → (fuel left turns : ℕ) (g i : GuestState) (v w : StorageView) (d e : DiskView) (cpu : ℕ) (a : Alone) → Fit g v d → v.quiet ≡ true → cpu < length g.processors
@@ -151,7 +177,7 @@ stops_within keep (suc fuel) (suc left) turns g i v w d e cpu a f quiet below ra
     after_turn g x.answer.0 i v x.storage w d x.disk e cpu fuel left turns x.answer.1 a f quiet case
     (turn_causes g v x.storage d x.disk cpu x.answer.0 x.answer.1 f below x.first case) rank few
     (λ rank' few' run'. stops_within keep fuel left (turns + 1) x.answer.0 i x.storage w x.disk e cpu a f' (kept.quiet ∙ quiet) (rw size below) rank' (omega (arith, enough))
-    (λ op command. let most = few' op command in one_later turns left (turns_of x.answer.0.plan op) most) run')
+    (λ op command. let most = few' op command in one_later turns left (turns_of x.answer.0 cpu op) most) run')
     x.second
 
 -- so many turns a command may take, and it takes no more
@@ -169,13 +195,13 @@ first_rank g v d cpu None f none = record {
   few = λ op command. let bad : None ≡ Some op = sym none ∙ command in absurd cc;
 }
 first_rank g v d cpu (Some op) f command = record {
-  left = turns_of g.plan op;
-  rank = has_command op command (command_rank g v cpu op f.locks command);
-  enough = turns_of-most g.plan op f.sizes.range;
+  left = turns_of g cpu op;
+  rank = has_command op command (command_rank g v cpu op f.locks f.teardowns command);
+  enough = turns_of-most g v d cpu op f;
   few = λ op' command'.
       let both : Some op ≡ Some op' = sym command ∙ command' in
       let same : op ≡ op' = cc in
-      same_turns (turns_of g.plan op) (turns_of g.plan op') (ap (turns_of g.plan) same);
+      same_turns (turns_of g cpu op) (turns_of g cpu op') (ap (turns_of g cpu) same);
 }
 
 -- no turn moved before the first

@@ -1,18 +1,19 @@
 -- Each turn that moved leaves fewer turns, over a storage that never misses.
-use Rattle.std.specs.Prelude.{Contains, false, ◌⊎◌, ◌≡◌, ◌<◌, ◌≤◌, ◌*◌, ℕ, suc, ◌/◌, List, ◌∷◌, length, Bool, true, Some, refl}
+use Rattle.std.specs.Prelude.{Contains, false, ◌⊎◌, ◌≡◌, ◌≢◌, ◌<◌, ◌≤◌, ◌*◌, ℕ, suc, ◌/◌, List, [], ◌∷◌, length, Bool, true, Some, refl}
 use Rattle.std.proofs.Common.{arith, inl, inr, sym, ap, subst, zero-lt-suc, ◌∙◌}
 use Rattle.cmm_types.specs.declared.page.TheConstants.{PAGE}
 use Rattle.cmm_types.specs.declared.page.Tag.{Tag}
 use Rattle.cmm_types.specs.declared.plan.TheConstants.{MAX_MAPPING_SLOTS}
 use Rattle.cmm_types.specs.declared.command.TheConstants.{MAX_MAPPING_PAGES}
 use Rattle.cmm_types.specs.declared.command.Op.{Op}
+use Rattle.cmm_types.specs.declared.command.Op.TheVariants.{Unmap}
 use Rattle.cmm_types.specs.declared.turn.Turn.TheVariants.{Moved, Again}
 use Rattle.cmm_types.specs.declared.turn.Why.{Why}
 use Rattle.cmm_flat.specs.Legal.{process_of}
 use Rattle.cmm_io.specs.DiskView.{DiskView}
 use Rattle.essa_state.specs.PageValue.{PageValue, is_lost}
 use Rattle.cmm_storage.specs.StorageView.{StorageView}
-use Rattle.guest_pages.specs.PagesView.{info_at}
+use Rattle.guest_pages.specs.PagesView.{PagesView, info_at}
 use Rattle.guest_cache.specs.CacheView.{CacheView, page_of}
 use Rattle.guest_maps.specs.declared.slot.Pte.{Pte}
 use Rattle.guest_maps.specs.MapsView.{MapsView, place_at, entry_at, with_entry}
@@ -22,17 +23,20 @@ use Rattle.guest_rules.specs.declared.processor.Phase.TheVariants.{Start, Fill}
 use Rattle.guest_rules.specs.GuestState.{GuestState, processor_at, with_parts, with_phase}
 use Rattle.guest_rules.specs.Rows.{filled, handled, mapped}
 use Rattle.guest_rules.specs.Turns.{begun}
-use Rattle.guest_rules.specs.Fit.{Fit, NeedsPage}
-use Rattle.guest_rules.proofs.Cases.TurnCases.{TurnCase, was_idle, was_refused, was_mapped, waited, missed, missed_rehinted, was_begun, was_gone, was_read, was_written, touch_failed, was_resolved, was_loaded, was_stored, entry_failed, fill_failed, was_filled, Has, Starts, Wants, Maps, HasPage, IsRehinted, was_pinned, was_sync}
+use Rattle.guest_rules.specs.Fit.{Fit}
+use Rattle.guest_rules.proofs.Cases.TurnCases.{TurnCase, was_idle, was_refused, was_mapped, waited, missed, missed_rehinted, was_begun, was_gone, was_read, was_written, touch_failed, was_resolved, was_loaded, was_stored, entry_failed, fill_failed, was_filled, Has, Starts, Wants, Maps, HasPage, IsRehinted, was_pinned, was_sync, was_room, was_unmapped, was_torn}
 use Rattle.guest_rules.proofs.Causes.Processors.{at_phase}
+use Rattle.guest_rules.proofs.Causes.CauseForms.{fills_needing}
 use Rattle.guest_rules.proofs.Kept.Tables.{page_of-handled, tag-begun}
-use Rattle.guest_rules.proofs.Kept.RowChanges.{only-changed, only-mapped, maps-changed, maps-mapped, handled-maps, freed-maps}
+use Rattle.guest_rules.proofs.Kept.RowChanges.{only-changed, only-mapped, maps-changed, maps-mapped, handled-pages, handled-maps, freed-free, freed-maps}
 use Rattle.guest_rules.proofs.Kept.EntryLaws.{entry_at-set}
 use Rattle.guest_rules.proofs.Cases.WantedTags.{shows_at}
 use Rattle.guest_rules.proofs.Fit.StepResolved.{through}
 use Rattle.guest_rules.proofs.Bound.WantedKept.{wanted-same, maps-same}
 use Rattle.guest_rules.proofs.Bound.SyncSteps.{sync_step, sync_never_again}
-use Rattle.guest_rules.proofs.Bound.Ranks.{NotSync, needs-not_sync, Rank, has_command, served, has_page, fills_own, has_none, start_rank, rank_of, rank-none, rank-lost, rank-unserved, rank-fills}
+use Rattle.guest_rules.proofs.Bound.RoomSteps.{room_step, room_never_again}
+use Rattle.guest_rules.proofs.Bound.TearSteps.{unmapped_rank, tear_step, tear_never_again}
+use Rattle.guest_rules.proofs.Bound.Ranks.{IsShort, needs-short, Rank, has_command, served, has_page, fills_own, has_none, start_rank, rank_of, rank-none, rank-lost, rank-unserved, rank-fills}
 
 -- a free page is one of the guest's
 free_below : (g : GuestState) (v : StorageView) (d : DiskView) (page : ℕ) (rest : List ℕ) → Fit g v d → g.parts.pages.free ≡ page ∷ rest → page < length g.parts.pages.infos
@@ -54,7 +58,9 @@ gone_rank : (g : GuestState) (w : StorageView) (cpu : ℕ) (op : Op) (tag : Tag)
     → Rank (with_parts g (handled g.parts page)) w cpu left
 gone_rank g w cpu op tag page left starts wants has h =
     let slots = ap (λ (m : MapsView). m.slots) (handled-maps g.parts page ∙ freed-maps g.parts page) ∙ slots-without_entries_of g.parts.maps page in
-    has_command op starts.has.command (has_none tag starts.start (wanted-same g.parts (handled g.parts page) (process_of g.plan cpu) op slots ∙ wants) (page_of-handled g.parts page tag has.tagged) h)
+    let next : (handled g.parts page).pages.free ≡ page ∷ g.parts.pages.free = ap (λ (p : PagesView). p.free) (handled-pages g.parts page) ∙ freed-free g.parts page in
+    let free : (handled g.parts page).pages.free ≢ [] = λ full. let bad : page ∷ g.parts.pages.free ≡ [] = sym next ∙ full in cc in
+    has_command op starts.has.command (has_none tag starts.start (wanted-same g.parts (handled g.parts page) (process_of g.plan cpu) op slots ∙ wants) (page_of-handled g.parts page tag has.tagged) free h)
 
 place_below : (slot index count : ℕ) → slot < MAX_MAPPING_SLOTS → index < MAX_MAPPING_PAGES → count ≡ MAX_MAPPING_SLOTS * MAX_MAPPING_PAGES → place_at slot index < count
 place_below slot index count below within size = omega (arith, below, within, size)
@@ -105,11 +111,11 @@ resolved_rank g v w d cpu op tag writes slot off page found after left f starts 
         let shown = shows_at _ g.parts slot (off / PAGE) tag f.slots its.mapped in
         place_below slot (off / PAGE) (length g.parts.maps.entries) (rw f.slots.slots at its.slot_below) (omega (arith, shown.below, shown.few)) f.slots.entries
 
-filled_rank : (g : GuestState) (v w : StorageView) (d : DiskView) (cpu : ℕ) (op : Op) (page left : ℕ) → Fit g v d → Has g cpu op → NotSync op → is_lost (w.values page).contents ≡ false
-    → ((tag : Tag) × Wants g cpu op tag × ((info_at g.parts.pages page).tag ≡ Some tag) × (3 ≤ suc left)) ⊎ (6 ≤ suc left)
+filled_rank : (g : GuestState) (v w : StorageView) (d : DiskView) (cpu : ℕ) (op : Op) (page left : ℕ) → Fit g v d → Has g cpu op → IsShort op → is_lost (w.values page).contents ≡ false
+    → ((tag : Tag) × Wants g cpu op tag × ((info_at g.parts.pages page).tag ≡ Some tag) × (3 ≤ suc left)) ⊎ (8 ≤ suc left)
     → Rank (with_phase (with_parts g (filled g.parts page)) cpu Start) w cpu left
 unfolding with_phase
-filled_rank g v w d cpu op page left f has not_sync there (inl (tag, wants, tagged, h)) =
+filled_rank g v w d cpu op page left f has short there (inl (tag, wants, tagged, h)) =
     let at = at_phase g cpu op (filled g.parts page) Start has in
     has_command op at.command
     (has_page (record {
@@ -121,17 +127,13 @@ filled_rank g v w d cpu op page left f has not_sync there (inl (tag, wants, tagg
           (f.pages.indexed page tag tagged).1;
       lost_is = there;
     }) (omega (arith, h)))
-filled_rank g v w d cpu op page left f has not_sync there (inr h) =
+filled_rank g v w d cpu op page left f has short there (inr h) =
     let at = at_phase g cpu op (filled g.parts page) Start has in
-    has_command op at.command (start_rank _ w cpu op left at.phase_is not_sync (omega (arith, h)))
+    has_command op at.command (start_rank _ w cpu op left at.command at.phase_is short (omega (arith, h)))
 
--- a sync fills no page
-fills_not_sync : (g : GuestState) (v : StorageView) (d : DiskView) (cpu : ℕ) (op : Op) (page : ℕ) → Fit g v d → Has g cpu op → (processor_at g cpu).phase ≡ Fill page → NotSync op
-fills_not_sync g v d cpu op page f has phase =
-    let k = (f.locks.filling cpu page phase).1 in
-    let both : Some k.op ≡ Some op = sym k.command ∙ has.command in
-    let same : k.op ≡ op = cc in
-    needs-not_sync op (subst NeedsPage same k.needs)
+-- a command whose page is filled is short
+fills_short : (g : GuestState) (v : StorageView) (d : DiskView) (cpu : ℕ) (op : Op) (page : ℕ) → Fit g v d → Has g cpu op → (processor_at g cpu).phase ≡ Fill page → IsShort op
+fills_short g v d cpu op page f has phase = needs-short op (fills_needing g v d cpu op page f has phase)
 
 -- a turn that moved leaves fewer turns
 pub rank_step : (g : GuestState) (v w : StorageView) (d e : DiskView) (cpu left : ℕ) (h : GuestState) → Fit g v d → v.quiet ≡ true → TurnCase g cpu v d h Moved w e
@@ -139,7 +141,7 @@ pub rank_step : (g : GuestState) (v w : StorageView) (d e : DiskView) (cpu left 
 rank_step g v w d e cpu left h f quiet (was_idle none eh et ew ee) rank = absurd (cc et)
 rank_step g v w d e cpu left h f quiet (was_refused op refusal has start refused eh et ew ee) rank = absurd (cc et)
 rank_step g v w d e cpu left h f quiet (was_mapped number file first count writable slot starts free eh et ew ee) rank = absurd (cc et)
-rank_step g v w d e cpu left h f quiet (waited op page owner starts locked eh et ew ee) rank = absurd (cc et)
+rank_step g v w d e cpu left h f quiet (waited op page owner starts its locked eh et ew ee) rank = absurd (cc et)
 rank_step g v w d e cpu left h f quiet (missed op why has eh et may misses ee) rank = absurd (cc et)
 rank_step g v w d e cpu left h f quiet (missed_rehinted why op tag page found after starts wants has eh et back may told misses ee) rank = absurd (cc et)
 rank_step g v w d e cpu left h f quiet (was_begun op tag page rest found starts wants none free eh et back may value) rank =
@@ -164,15 +166,19 @@ rank_step g v w d e cpu left h f quiet (entry_failed op writes slot off starts m
 rank_step g v w d e cpu left h f quiet (fill_failed op page cause has phase eh et back unused why) rank = absurd (cc et)
 rank_step g v w d e cpu left h f quiet (was_filled op page tag has phase tagged eh et back value) rank =
     let rank' = rank_of g v cpu op (suc left) has.command rank in
-    rw eh (filled_rank g v w d cpu op page left f has (fills_not_sync g v d cpu op page f has phase) (ap (λ q. is_lost q.contents) value) (rank-fills g v cpu op page (suc left) phase rank'))
+    rw eh (filled_rank g v w d cpu op page left f has (fills_short g v d cpu op page f has phase) (ap (λ q. is_lost q.contents) value) (rank-fills g v cpu op page (suc left) phase rank'))
 rank_step g v w d e cpu left h f quiet (was_sync file index k) rank = sync_step g v w d e cpu file index left h f k rank
+rank_step g v w d e cpu left h f quiet (was_room op k) rank = room_step g v w d e cpu op left h f k rank
+rank_step g v w d e cpu left h f quiet (was_unmapped number slot starts found eh et ew ee) rank =
+    rw eh (unmapped_rank g v w cpu number slot left starts found (rank_of g v cpu (Unmap number) (suc left) starts.has.command rank))
+rank_step g v w d e cpu left h f quiet (was_torn slot index k) rank = tear_step g v w d e cpu slot index left h f k rank
 
 -- and no turn has to be taken again
 pub never_again : (g : GuestState) (v w : StorageView) (d e : DiskView) (cpu : ℕ) (h : GuestState) (why : Why) → v.quiet ≡ true → TurnCase g cpu v d h (Again why) w e → ⊥
 never_again g v w d e cpu h why quiet (was_idle none eh et ew ee) = cc et
 never_again g v w d e cpu h why quiet (was_refused op refusal has start refused eh et ew ee) = cc et
 never_again g v w d e cpu h why quiet (was_mapped number file first count writable slot starts free eh et ew ee) = cc et
-never_again g v w d e cpu h why quiet (waited op page owner starts locked eh et ew ee) = cc et
+never_again g v w d e cpu h why quiet (waited op page owner starts its locked eh et ew ee) = cc et
 never_again g v w d e cpu h why quiet (missed op why' has eh et may misses ee) = let bad : true ≡ false = sym quiet ∙ misses.not_quiet in cc
 never_again g v w d e cpu h why quiet (missed_rehinted why' op tag page found after starts wants has eh et back may told misses ee) = let bad : true ≡ false = sym quiet ∙ misses.not_quiet in cc
 never_again g v w d e cpu h why quiet (was_begun op tag page rest found starts wants none free eh et back may value) = cc et
@@ -188,3 +194,6 @@ never_again g v w d e cpu h why quiet (entry_failed op writes slot off starts ma
 never_again g v w d e cpu h why quiet (fill_failed op page cause has phase eh et back unused why') = cc et
 never_again g v w d e cpu h why quiet (was_filled op page tag has phase tagged eh et back value) = cc et
 never_again g v w d e cpu h why quiet (was_sync file index k) = sync_never_again g v w d e cpu file index h why quiet k
+never_again g v w d e cpu h why quiet (was_room op k) = room_never_again g v w d e cpu op h why quiet k
+never_again g v w d e cpu h why quiet (was_unmapped number slot starts found eh et ew ee) = cc et
+never_again g v w d e cpu h why quiet (was_torn slot index k) = tear_never_again g v w d e cpu slot index h why quiet k

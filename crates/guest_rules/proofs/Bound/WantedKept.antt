@@ -10,17 +10,17 @@ use Rattle.guest_maps.specs.MapsView.{find_slot, is_mapping}
 use Rattle.guest_rules.specs.declared.parts.Parts.{Parts}
 use Rattle.guest_rules.specs.GuestState.{GuestState, with_parts}
 use Rattle.guest_rules.proofs.Kept.PinsKept.{tag-same}
-use Rattle.guest_rules.proofs.Cases.TurnCases.{Maps, tag_in, wanted_tag}
+use Rattle.guest_rules.proofs.Cases.TurnCases.{Maps, found_tag, wanted_tag}
 
 pub found_same : (old new : Parts) (process number : ℕ) → new.maps.slots ≡ old.maps.slots → find_slot new.maps process number ≡ find_slot old.maps process number
 found_same old new process number same = ap (λ (slots : List (Option Slot)). position (is_mapping process number) slots) same
 
-tag_in-same : (old new : Parts) (o : Option ℕ) (index : ℕ) → new.maps.slots ≡ old.maps.slots → tag_in new o index ≡ tag_in old o index
+tag_in-same : (old new : Parts) (o : Option ℕ) (index : ℕ) → new.maps.slots ≡ old.maps.slots → found_tag new o index ≡ found_tag old o index
 tag_in-same old new None index same = refl
 tag_in-same old new (Some slot) index same = tag-same old.maps new.maps slot index same
 
-tag_found : (old new : Parts) (process number index : ℕ) → new.maps.slots ≡ old.maps.slots → tag_in new (find_slot new.maps process number) index ≡ tag_in old (find_slot old.maps process number) index
-tag_found old new process number index same = ap (λ o. tag_in new o index) (found_same old new process number same) ∙ tag_in-same old new (find_slot old.maps process number) index same
+tag_found : (old new : Parts) (process number index : ℕ) → new.maps.slots ≡ old.maps.slots → found_tag new (find_slot new.maps process number) index ≡ found_tag old (find_slot old.maps process number) index
+tag_found old new process number index same = ap (λ o. found_tag new o index) (found_same old new process number same) ∙ tag_in-same old new (find_slot old.maps process number) index same
 
 pub wanted-same : (old new : Parts) (process : ℕ) (op : Op) → new.maps.slots ≡ old.maps.slots → wanted_tag new process op ≡ wanted_tag old process op
 wanted-same old new process (Read file off len) same = refl

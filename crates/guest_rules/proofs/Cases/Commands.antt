@@ -34,7 +34,7 @@ command-in_range plan cpu k op range e =
 pub command-built : (plan : GuestPlan) (cpu k : ℕ) (op : Op) → GuestIsBuilt plan → command_of plan cpu k ≡ Some op → IsBuiltOp op
 command-built plan cpu k op built e =
     let at = commanded plan cpu k op e in
-    element IsBuiltOp at.its.commands k op (element (λ (c : CpuPlan). All IsBuiltOp c.commands) plan.cpus cpu at.its built.commands at.there) at.command
+    element IsBuiltOp at.its.commands k op (element (λ (c : CpuPlan). All IsBuiltOp c.commands) plan.cpus cpu at.its built at.there) at.command
 
 pub command-below : (plan : GuestPlan) (cpu k : ℕ) (op : Op) → command_of plan cpu k ≡ Some op → k < commands_of plan cpu
 command-below plan cpu k op e =

@@ -5,7 +5,7 @@ use Rattle.cmm_types.specs.declared.page.TheConstants.{PAGE}
 use Rattle.cmm_types.specs.declared.page.Tag.{Tag}
 use Rattle.cmm_types.specs.declared.page.Tag.TheVariants.{File}
 use Rattle.cmm_types.specs.declared.command.Op.{Op}
-use Rattle.cmm_types.specs.declared.command.Op.TheVariants.{Read, Write, MapFile, Load, Store, Pin, Unpin, Sync}
+use Rattle.cmm_types.specs.declared.command.Op.TheVariants.{Read, Write, MapFile, Unmap, Load, Store, Pin, Unpin, Sync}
 use Rattle.cmm_types.specs.declared.command.FlatRefusal.{FlatRefusal}
 use Rattle.cmm_types.specs.declared.command.FlatRefusal.TheVariants.{NoMapping}
 use Rattle.cmm_types.specs.declared.turn.Turn.{Turn}
@@ -20,20 +20,21 @@ use Rattle.guest_maps.specs.declared.slot.Pte.{Pte}
 use Rattle.guest_maps.specs.declared.slot.Shown.TheVariants.{File as OfFile}
 use Rattle.guest_maps.specs.MapsView.{find_slot, free_slot, entry_at, tag_at}
 use Rattle.guest_rules.specs.declared.processor.Phase.{Phase}
-use Rattle.guest_rules.specs.declared.processor.Phase.TheVariants.{Start, Fill, Sync as AtSync, SyncWrite}
+use Rattle.guest_rules.specs.declared.processor.Phase.TheVariants.{Start, Fill, Room as AtRoom, Sync as AtSync, SyncWrite, Teardown}
 use Rattle.guest_rules.specs.GuestState.{GuestState, processor_at}
 use Rattle.guest_rules.specs.Built.{IsBuiltOp}
-use Rattle.guest_rules.specs.Turns.{turn, turn_on, turn_in, start_turn, start_refused, start_accepted, start_mapped, start_placed, start_entry, start_at, start_tagged, start_found, start_free, start_locked, hit_turn, map_turn, refusal_at, refusal_in, sync_turn, write_back_turn}
+use Rattle.guest_rules.specs.Turns.{turn, turn_on, turn_in, start_turn, start_refused, start_accepted, start_mapped, start_placed, start_entry, start_at, start_tagged, start_found, start_free, start_locked, hit_turn, map_turn, unmap_turn, refusal_at, refusal_of_unmap, refusal_in, sync_turn, write_back_turn}
 use Rattle.guest_rules.specs.Fit.{FitAt}
-use Rattle.guest_rules.proofs.Cases.TurnCases.{TurnCase, was_idle, was_refused, was_mapped, waited, Has, Starts, CanBeSet, pin_op, was_sync, Syncs}
-use Rattle.guest_rules.proofs.Cases.Room.{never_full}
+use Rattle.guest_rules.proofs.Cases.TurnCases.{TurnCase, was_idle, was_refused, was_mapped, waited, Has, Starts, CanBeSet, pin_op, was_sync, was_room, was_unmapped, was_torn, Syncs}
 use Rattle.guest_rules.proofs.Ready.Ready.{found_page}
 use Rattle.guest_rules.proofs.Cases.Commands.{command-built}
 use Rattle.guest_rules.proofs.Cases.Reached.{Proceeds, Reaches, reads, overwrites, sets, load_reaches, store_reaches, has_free_slot, places}
 use Rattle.guest_rules.proofs.Cases.WantedTags.{IsWanted, is_wanted, sync-file}
 use Rattle.guest_rules.proofs.Cases.FileSizes.{file_pages-some}
 use Rattle.guest_rules.proofs.Cases.CaseFill.{case_fill, case_begin}
+use Rattle.guest_rules.proofs.Cases.CaseRoom.{case_room, case_page_out}
 use Rattle.guest_rules.proofs.Cases.CaseSync.{case_sync, case_write_back}
+use Rattle.guest_rules.proofs.Cases.CaseTear.{case_tear}
 use Rattle.guest_rules.proofs.Cases.CaseUse.{case_use}
 use Rattle.guest_rules.proofs.Cases.CaseEntry.{case_load, case_store}
 use Rattle.guest_rules.proofs.Cases.Placed.{pin-found, pin-reaches}
@@ -47,7 +48,7 @@ case_locked : (state : FlatState) (g : GuestState) (v w : StorageView) (d e : Di
     → FitAt state g v d → Proceeds g cpu op tag → page_of g.parts.cache tag ≡ Some page → (info_at g.parts.pages page).owner ≡ owner
     → Seen {A = GuestState × Turn} (start_locked g cpu op page owner) v d (h, t) w e → TurnCase g cpu v d h t w e
 case_locked state g v w d e cpu op tag page (Some owner) h t f k found locked (ea, em, ed) =
-    waited op page owner k.starts locked (ap (λ q. q.0) ea) (ap (λ q. q.1) ea) em ed
+    waited op page owner k.starts (record { tag = tag; wants = k.wants; found = found }) locked (ap (λ q. q.0) ea) (ap (λ q. q.1) ea) em ed
 case_locked state g v w d e cpu op tag page None h t f k found unlocked run =
     case_use state g v w d e cpu op tag page h t f k k.uses (found_page state g v d page tag f (wanted state g v d cpu op tag f k).is_tag found unlocked) run
 
@@ -55,9 +56,7 @@ case_free : (state : FlatState) (g : GuestState) (v w : StorageView) (d e : Disk
     → FitAt state g v d → Proceeds g cpu op tag → page_of g.parts.cache tag ≡ None → g.parts.pages.free ≡ free
     → Seen {A = GuestState × Turn} (start_free g cpu op tag free) v d (h, t) w e → TurnCase g cpu v d h t w e
 case_free state g v w d e cpu op tag [] h t f k none full run =
-    let its = wanted state g v d cpu op tag f k in
-    let (file, index, same) = its.of_file in
-    absurd (never_full state g v d file index f (rw same at its.is_tag) (rw same at none) full)
+    was_room op (case_room state g v w d e cpu op h t f (record { starts = k.starts; tag = tag; wants = k.wants; none = none; full = full }) run)
 case_free state g v w d e cpu op tag (page ∷ rest) h t f k none free run = case_begin g v w d e cpu op tag page rest h t k none free run
 
 case_found : (state : FlatState) (g : GuestState) (v w : StorageView) (d e : DiskView) (cpu : ℕ) (op : Op) (tag : Tag) (found : Option ℕ) (h : GuestState) (t : Turn)
@@ -137,6 +136,14 @@ case_map state g v w d e cpu number file first count writable None h t f starts 
 case_map state g v w d e cpu number file first count writable (Some slot) h t f starts free (ea, em, ed) =
     was_mapped number file first count writable slot starts free (ap (λ q. q.0) ea) (ap (λ q. q.1) ea) em ed
 
+-- the end of a mapping
+case_unmap : (g : GuestState) (v w : StorageView) (d e : DiskView) (cpu number : ℕ) (found : Option ℕ) (h : GuestState) (t : Turn)
+    → Starts g cpu (Unmap number) → find_slot g.parts.maps (process_of g.plan cpu) number ≡ found
+    → Seen {A = GuestState × Turn} (unmap_turn g cpu (Unmap number) found) v d (h, t) w e → TurnCase g cpu v d h t w e
+case_unmap g v w d e cpu number None h t starts none run =
+    let bad : Some NoMapping ≡ None = ap (refusal_of_unmap g.parts.maps) (sym none) ∙ starts.accepted in absurd cc
+case_unmap g v w d e cpu number (Some slot) h t starts found (ea, em, ed) = was_unmapped number slot starts found (ap (λ q. q.0) ea) (ap (λ q. q.1) ea) em ed
+
 case_accepted : (state : FlatState) (g : GuestState) (v w : StorageView) (d e : DiskView) (cpu : ℕ) (op : Op) (h : GuestState) (t : Turn)
     → FitAt state g v d → Starts g cpu op → IsBuiltOp op → Seen {A = GuestState × Turn} (start_accepted g cpu op) v d (h, t) w e → TurnCase g cpu v d h t w e
 case_accepted state g v w d e cpu (Read file off len) h t f starts built run =
@@ -159,6 +166,8 @@ case_accepted state g v w d e cpu (Sync file) h t f starts built run =
     let below = sync-file g (process_of g.plan cpu) file starts.accepted in
     let its : Syncs g cpu file 0 = record { has = starts.has; looks = inl (starts.start, refl); file_below = below; within = file_pages-some g.plan.files file f.sizes.range.files.each below } in
     was_sync file 0 (case_sync state g v w d e cpu file 0 h t f its run)
+case_accepted state g v w d e cpu (Unmap number) h t f starts built run =
+    case_unmap g v w d e cpu number (find_slot g.parts.maps (process_of g.plan cpu) number) h t starts refl run
 case_accepted state g v w d e cpu op h t f starts built run = absurd built
 
 case_refused : (state : FlatState) (g : GuestState) (v w : StorageView) (d e : DiskView) (cpu : ℕ) (op : Op) (refusal : Option FlatRefusal) (h : GuestState) (t : Turn)
@@ -197,8 +206,10 @@ unfolding start_turn
 case_in state g v w d e cpu op Start h t f has built phase run =
     case_refused state g v w d e cpu op (refusal_in g (process_of g.plan cpu) op) h t f has built phase refl run
 case_in state g v w d e cpu op (Fill page) h t f has built phase run = case_fill state g v w d e cpu op page h t f has phase run
+case_in state g v w d e cpu op (AtRoom page) h t f has built phase run = was_room op (case_page_out state g v w d e cpu op page h t f has phase run)
 case_in state g v w d e cpu op (AtSync index) h t f has built phase run = case_at_sync state g v w d e cpu op index h t f has phase run
 case_in state g v w d e cpu op (SyncWrite index page) h t f has built phase run = case_writing state g v w d e cpu op index page h t f has phase run
+case_in state g v w d e cpu op (Teardown slot index) h t f has built phase run = was_torn slot index (case_tear state g v w d e cpu slot index h t f phase run)
 
 case_on : (state : FlatState) (g : GuestState) (v w : StorageView) (d e : DiskView) (cpu : ℕ) (op : Option Op) (h : GuestState) (t : Turn)
     → FitAt state g v d → cpu < length g.processors → command_of g.plan cpu (processor_at g cpu).place ≡ op

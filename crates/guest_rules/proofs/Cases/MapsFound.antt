@@ -1,12 +1,11 @@
 -- What is found in the mapping slots.
-use Rattle.std.specs.Prelude.{◌≡◌, ◌<◌, ◌+◌, ℕ, suc, List, [], ◌∷◌, length, Bool, true, false, cond, Option, Some, None, get_or, count_by, is_none, nat_lt, refl}
+use Rattle.std.specs.Prelude.{◌≡◌, ◌<◌, ◌+◌, ℕ, suc, List, [], ◌∷◌, length, Bool, true, false, cond, Option, Some, None, get_or, count_by, nat_lt, refl}
 use Rattle.std.proofs.Common.{arith, ap, ◌∙◌}
 use Rattle.std.proofs.lemmas.Bool.Decides.{nat_tests}
 use Rattle.std.proofs.lemmas.List.Quantifiers.{position-Some}
 use Rattle.std.proofs.lemmas.List.Sums.{sum_by-cons}
-use Rattle.guest_maps.specs.FirstPlace.{none_within}
 use Rattle.guest_maps.specs.declared.slot.Slot.{Slot}
-use Rattle.guest_maps.specs.MapsView.{MapsView, slot_at, find_slot, free_slot, is_mapping, tag_of, tag_at}
+use Rattle.guest_maps.specs.MapsView.{MapsView, slot_at, find_slot, is_mapping, tag_of, tag_at}
 
 -- what stands in a slot that was found
 pub record IsFoundSlot (maps : MapsView) (process number slot : ℕ) : Type 0 where
@@ -36,14 +35,6 @@ none_counted p d [] fails = refl
 none_counted p d (x ∷ xs) fails =
     let rest = none_counted p d xs (λ i l. fails (suc i) (omega (arith, l))) in
     sum_by-cons (λ y. cond (p y) 1 0) x xs ∙ ap (λ b. cond b 1 0 + count_by p xs) (fails 0 (omega arith)) ∙ omega (arith, rest)
-
--- where no slot is free, each has a mapping
-pub none_free : (maps : MapsView) (slot : ℕ) → free_slot maps ≡ None → slot < length maps.slots → (mapping : Slot) × (slot_at maps slot ≡ Some mapping)
-none_free maps slot e below = of (slot_at maps slot) refl (none_within is_none maps.slots None e slot below)
-  where
-    of : (o : Option Slot) → slot_at maps slot ≡ o → is_none o ≡ false → (mapping : Slot) × (slot_at maps slot ≡ Some mapping)
-    of None at is = absurd (cc is)
-    of (Some mapping) at is = (mapping, at)
 
 -- what is shown at a page that a mapping has
 pub tag_at-place : (maps : MapsView) (slot index : ℕ) (mapping : Slot) → slot_at maps slot ≡ Some mapping → index < mapping.count → tag_at maps slot index ≡ Some (tag_of mapping.shown slot index)

@@ -10,7 +10,7 @@ use Rattle.guest_maps.specs.MapsView.{MapsView, IsPlace, slot_at, find_slot, pin
 use Rattle.guest_maps.specs.Laws.MapsLaws.{IsPlace-from}
 use Rattle.guest_rules.specs.GuestState.{GuestState}
 use Rattle.guest_rules.specs.Turns.{mapping_pages, refusal_of_pin, refusal_of_pin_at, refusal_in}
-use Rattle.guest_rules.proofs.Cases.TurnCases.{Starts, Wants, tag_in, wanted_tag, pin_op}
+use Rattle.guest_rules.proofs.Cases.TurnCases.{Starts, Wants, found_tag, wanted_tag, pin_op}
 use Rattle.guest_rules.proofs.Cases.MapsFound.{found_slot, tag_at-place}
 
 -- a page of a live mapping, which isn't pinned and is to be, or is pinned and isn't to be
@@ -58,8 +58,8 @@ pin-found g cpu pins number index starts none =
 -- the tag that it wants is the place's
 pub pin-wants : (g : GuestState) (process : ℕ) (pins : Bool) (number index slot : ℕ) → find_slot g.parts.maps process number ≡ Some slot
     → wanted_tag g.parts process (pin_op pins number index) ≡ tag_at g.parts.maps slot index
-pin-wants g process true number index slot found = ap (λ o. tag_in g.parts o index) found
-pin-wants g process false number index slot found = ap (λ o. tag_in g.parts o index) found
+pin-wants g process true number index slot found = ap (λ o. found_tag g.parts o index) found
+pin-wants g process false number index slot found = ap (λ o. found_tag g.parts o index) found
 
 -- a pin or an unpin reaches a page of the mapping in a slot
 pub record ReachesPlace (g : GuestState) (cpu : ℕ) (op : Op) (slot index : ℕ) : Type 0 where

@@ -1,13 +1,17 @@
 -- The tables refuse what the flat machine refuses.
-use Rattle.std.proofs.Common.{◌≡◌, ◌≤◌, ◌+◌, ◌*◌, ◌/◌, ◌%◌, ◌&&◌, not, nat_lt, nat_le, if◌then◌else◌, ℕ, zero, suc, Bool, true, false, List, [], ◌∷◌, map, length, get_or, take, drop, Option, Some, None, is_some, refl, ap, sym, ◌∙◌, arith}
+use Rattle.std.proofs.Common.{◌≡◌, ◌<◌, ◌≤◌, ◌+◌, ◌*◌, ◌/◌, ◌%◌, ◌&&◌, not, nat_lt, nat_le, if◌then◌else◌, ℕ, zero, suc, Bool, true, false, List, [], ◌∷◌, map, length, get_or, take, drop, Option, Some, None, is_some, refl, ap, sym, ◌∙◌, arith}
 use Rattle.std.specs.FinMap as finite
-use Rattle.std.proofs.lemmas.Bool.{ltb-true}
+use Rattle.std.specs.List.{list_any}
+use Rattle.std.proofs.lemmas.Bool.{ltb-true, false_from_ne_true}
+use Rattle.std.proofs.lemmas.List.Elements.{All-from_get_or}
+use Rattle.std.proofs.lemmas.List.Folds.{list_any_at, list_any_none}
 use Rattle.std.proofs.lemmas.List.{length-map}
 use Rattle.cmm_types.specs.declared.page.TheConstants.{PAGE}
+use Rattle.cmm_types.specs.declared.command.TheConstants.{MAX_MAPPING_PAGES}
 use Rattle.cmm_types.specs.declared.plan.TheConstants.{MAX_LIVE_MAPPINGS}
 use Rattle.cmm_types.specs.declared.plan.FilePlan.{FilePlan}
 use Rattle.cmm_types.specs.declared.command.Op.{Op}
-use Rattle.cmm_types.specs.declared.command.Op.TheVariants.{Read, Write, MapFile, Load, Store, Pin, Unpin, Sync}
+use Rattle.cmm_types.specs.declared.command.Op.TheVariants.{Read, Write, MapFile, Unmap, Load, Store, Pin, Unpin, Sync}
 use Rattle.cmm_types.specs.declared.command.FlatRefusal.{FlatRefusal}
 use Rattle.cmm_types.specs.declared.command.FlatRefusal.TheVariants.{NoMapping, AlreadyMapped, OutOfRange, ReadOnly, Pinned, NotPinned, TooManyMaps}
 use Rattle.cmm_flat.specs.declared.mapping.Mapping.{Mapping}
@@ -15,18 +19,21 @@ use Rattle.cmm_types.specs.Bytes.{bytes_at}
 use Rattle.cmm_flat.specs.Laws.RangeLaws.{bytes_at-bytes_at}
 use Rattle.cmm_flat.specs.Mapping.{shows_writable as flat_writable}
 use Rattle.cmm_flat.specs.State.{FlatState, mapping_at, file_at}
-use Rattle.cmm_flat.specs.Flat.{in_file, in_mapping, has_page, is_pinned, of_live, first_refusal, refusal_of}
+use Rattle.cmm_flat.specs.Flat.{in_file, in_mapping, has_page, has_pin, is_pinned, of_live, first_refusal, refusal_of}
 use Rattle.cmm_flat.specs.Laws.FlatLaws.{length-file_at}
 use Rattle.guest_maps.specs.declared.slot.Shown.{Shown}
 use Rattle.guest_maps.specs.declared.slot.Shown.TheVariants.{File, Anon}
 use Rattle.guest_maps.specs.declared.slot.Slot.{Slot}
-use Rattle.guest_maps.specs.MapsView.{MapsView, find_slot, live_slots, is_writable, pinned_at}
+use Rattle.guest_maps.specs.MapsView.{MapsView, slot_at, find_slot, live_slots, is_writable, slot_has_page, pinned_at, any_pinned}
+use Rattle.guest_maps.specs.Laws.TornLaws.{pinned_at-none, any_pinned-none}
+use Rattle.guest_rules.specs.declared.parts.Parts.{Parts}
 use Rattle.guest_rules.specs.GuestState.{GuestState}
 use Rattle.guest_rules.specs.Built.{IsBuiltOp}
-use Rattle.guest_rules.specs.Turns.{file_pages, file_has_bytes, refusal_at, refusal_of_new, refusal_of_pin, refusal_of_pin_at, refusal_in}
-use Rattle.guest_rules.specs.Fit.{SlotsFit, pins_of, flat_mapping, flat_found}
+use Rattle.guest_rules.specs.Turns.{file_pages, file_has_bytes, refusal_at, refusal_of_new, refusal_of_pin, refusal_of_pin_at, refusal_of_unmap, refusal_in}
+use Rattle.guest_rules.specs.Fit.{SlotsFit, pins_of, flat_slot, flat_mapping, flat_found}
 use Rattle.guest_rules.proofs.Cases.MapsFound.{found_slot}
 use Rattle.guest_rules.proofs.Kept.PinLaws.{length-pins_of, pins_of-at}
+use Rattle.guest_rules.proofs.Kept.SlotsKept.{slot-below}
 
 -- the files have the planned sizes
 abbrev pub HasLengths : List (List ℕ) → List FilePlan → Type 0
@@ -163,6 +170,56 @@ pin_same maps process number index pins (Some slot) e =
     ∙ tests_same pins (nat_lt index count) (get_or (pins_of maps slot count) index false) (pinned_at maps slot index) (λ t. pins_of-at maps slot count index false (ltb-true index count t))
     )
 
+-- ends of mappings
+abbrev unmap_refusal : Option Mapping → Option FlatRefusal
+unmap_refusal mapping = first_refusal ((not (is_some mapping), NoMapping) ∷ (of_live has_pin mapping, Pinned) ∷ [])
+
+-- a page of the mapping is pinned for the flat machine where one is in the tables
+any_same : (flat : FlatState) (parts : Parts) (slot : ℕ) (mapping : Slot) → SlotsFit flat parts → slot_at parts.maps slot ≡ Some mapping
+    → has_pin (flat_slot parts.maps slot mapping) ≡ any_pinned parts.maps slot
+any_same flat parts slot mapping f at = by (any_pinned parts.maps slot) refl
+  where
+    pins : List Bool
+    pins = pins_of parts.maps slot mapping.count
+
+    below : slot < length parts.maps.slots
+    below = slot-below parts.maps slot mapping at
+
+    whole : length parts.maps.pinned ≡ length parts.maps.slots * MAX_MAPPING_PAGES
+    whole = f.pinned ∙ ap (λ n. n * MAX_MAPPING_PAGES) (sym f.slots)
+
+    -- where the flat machine has none, the tables have none
+    none : list_any (λ pin. pin) pins ≡ false → (index : ℕ) → index < MAX_MAPPING_PAGES → pinned_at parts.maps slot index ≡ false
+    none free index lt = false_from_ne_true (pinned_at parts.maps slot index) (λ is.
+        let there : slot_has_page (Some mapping) index ≡ true = ap (λ o. slot_has_page o index) (sym at) ∙ f.placed slot index lt is in
+        let inside : index < mapping.count = ltb-true index mapping.count there in
+        let found = list_any_at (λ pin. pin) pins index false (rw (length-pins_of parts.maps slot mapping.count) inside) (pins_of-at parts.maps slot mapping.count index false inside ∙ is) in
+        let bad : true ≡ false = sym found ∙ free in cc)
+
+    by : (b : Bool) → any_pinned parts.maps slot ≡ b → list_any (λ pin. pin) pins ≡ any_pinned parts.maps slot
+    by true e = sym (e ∙ sym (some (list_any (λ pin. pin) pins) refl))
+      where
+        some : (b : Bool) → list_any (λ pin. pin) pins ≡ b → list_any (λ pin. pin) pins ≡ true
+        some true x = x
+        some false x = let bad : true ≡ false = sym e ∙ any_pinned-none parts.maps slot whole below (none x) in absurd cc
+    by false e =
+        list_any_none (λ pin. pin) pins (All-from_get_or (λ pin. pin ≡ false) pins false (λ index lt.
+        let inside : index < mapping.count = rw (length-pins_of parts.maps slot mapping.count) at lt in
+        pins_of-at parts.maps slot mapping.count index false inside
+        ∙ pinned_at-none parts.maps slot index whole below (omega (arith, inside, (f.shown slot mapping at).0)) e))
+        ∙ sym e
+
+unmap_same : (flat : FlatState) (parts : Parts) (process number : ℕ) (o : Option ℕ) → SlotsFit flat parts → find_slot parts.maps process number ≡ o
+    → unmap_refusal (flat_found parts.maps o) ≡ refusal_of_unmap parts.maps o
+unmap_same flat parts process number None f e = refl
+unmap_same flat parts process number (Some slot) f e =
+    let found = found_slot parts.maps process number slot e in
+    rw found.at (ap (λ b. first_refusal ((b, Pinned) ∷ [])) (any_same flat parts slot found.mapping f found.at) ∙ pinned_test (any_pinned parts.maps slot))
+  where
+    pinned_test : (b : Bool) → first_refusal ((b, Pinned) ∷ []) ≡ (if b then Some Pinned else None)
+    pinned_test true = refl
+    pinned_test false = refl
+
 -- a built command is refused by the tables as the flat machine refuses it
 pub refusal-same : (flat : FlatState) (g : GuestState) (process : ℕ) (op : Op) → IsBuiltOp op → SlotsFit flat g.parts → HasLengths flat.files g.plan.files
     → refusal_of flat process op ≡ refusal_in g process op
@@ -188,6 +245,8 @@ refusal-same flat g process (Unpin number index) built fits has =
     ∙ pin_same g.parts.maps process number index false (find_slot g.parts.maps process number) refl
 refusal-same flat g process (Sync file) built fits has =
     ap (λ n. range_refusal (nat_lt file n)) (length-files flat.files g.plan.files has) ∙ range_same (nat_lt file (length g.plan.files))
+refusal-same flat g process (Unmap number) built fits has =
+    ap unmap_refusal (fits.flat process number) ∙ unmap_same flat g.parts process number (find_slot g.parts.maps process number) fits refl
 refusal-same flat g process op built fits has = absurd built
 
 -- bytes of a page are the file's

@@ -1,5 +1,5 @@
 -- What a turn did, seen from its views: one case for each way through the table of turns.
-use Rattle.std.specs.Prelude.{◌≡◌, ◌⊎◌, ◌<◌, ℕ, Bool, Option, ◌/◌, ◌%◌, List, ◌∷◌, length, take, drop, true, false, Some, None}
+use Rattle.std.specs.Prelude.{◌≡◌, ◌⊎◌, ◌<◌, ℕ, Bool, Option, ◌-◌, ◌/◌, ◌%◌, List, [], ◌∷◌, length, take, drop, true, false, Some, None}
 use Rattle.cmm_types.specs.declared.page.TheConstants.{PAGE}
 use Rattle.cmm_types.specs.declared.page.Usage.TheVariants.{S, V}
 use Rattle.cmm_types.specs.declared.page.Tag.{Tag}
@@ -8,7 +8,7 @@ use Rattle.cmm_types.specs.declared.command.Op.{Op}
 use Rattle.cmm_types.specs.declared.command.Op.TheVariants.{Read, Write, Sync, MapFile, MapAnon, Unmap, Load, Store, Pin, Unpin}
 use Rattle.cmm_types.specs.declared.command.Reply.TheVariants.{Done, Bytes as BytesReply, Refused, Fail}
 use Rattle.cmm_types.specs.declared.command.Cause.{Cause}
-use Rattle.cmm_types.specs.declared.command.Cause.TheVariants.{Paging}
+use Rattle.cmm_types.specs.declared.command.Cause.TheVariants.{Paging, NoPage}
 use Rattle.cmm_types.specs.declared.command.FlatRefusal.{FlatRefusal}
 use Rattle.cmm_types.specs.declared.turn.Turn.{Turn}
 use Rattle.cmm_types.specs.declared.turn.Turn.TheVariants.{Moved, Finished, Waits, Again, Idle}
@@ -21,18 +21,20 @@ use Rattle.cmm_storage.specs.StorageView.{StorageView, Keeps, Misses}
 use Rattle.cmm_types.specs.Bytes.{with_bytes}
 use Rattle.guest_pages.specs.PagesView.{info_at}
 use Rattle.guest_cache.specs.CacheView.{CacheView, page_of, backing_of}
-use Rattle.guest_rules.specs.declared.processor.Phase.TheVariants.{Start, Fill, Sync as AtSync, SyncWrite}
+use Rattle.guest_rules.specs.declared.processor.Phase.TheVariants.{Start, Fill, Room as AtRoom, Sync as AtSync, SyncWrite, Teardown}
 use Rattle.guest_maps.specs.declared.slot.Pte.{Pte}
 use Rattle.guest_maps.specs.declared.slot.Shown.TheVariants.{File as OfFile}
-use Rattle.guest_maps.specs.MapsView.{find_slot, free_slot, entry_at, tag_at, with_slot_mapped}
+use Rattle.guest_maps.specs.MapsView.{find_slot, slot_at, free_slot, entry_at, with_slot_mapped, torn_slot}
 use Rattle.guest_rules.specs.declared.parts.Parts.{Parts}
 use Rattle.guest_rules.specs.Hint.{hint}
-use Rattle.guest_rules.specs.Rows.{handled, freed, filled, dirtied, with_change, mapped, pinned}
-use Rattle.guest_rules.specs.GuestState.{GuestState, processor_at, with_parts, with_phase, entered}
-use Rattle.guest_rules.specs.Turns.{refusal_in, begun, file_pages, passed}
-use Rattle.guest_rules.specs.Fit.{NeedsPage, backing}
+use Rattle.guest_rules.specs.Rows.{handled, freed, filled, dirtied, with_change, mapped, unmapped, pinned}
+use Rattle.guest_rules.specs.GuestState.{GuestState, processor_at, with_parts, with_phase, entered, answered}
+use Rattle.guest_rules.specs.Turns.{refusal_in, begun, file_pages, mapping_pages, passed, torn_past}
+use Rattle.guest_rules.specs.Fit.{NeedsPage, IsTearing, backing}
 pub use Rattle.guest_rules.specs.Meanwhile.{AllMay}
+pub use Rattle.guest_rules.specs.Wanted.{found_tag, wanted_tag}
 use Rattle.guest_rules.specs.Syncs.{locked, unlocked, cleaned}
+use Rattle.guest_rules.specs.MakeRoom.{first_to_go, first_locked, pinned_count, locked_to_go, behind}
 use Rattle.guest_rules.specs.Answers.{FailCause}
 
 -- one page was held and given back; the disk has the blocks that it had
@@ -52,23 +54,6 @@ pub record Starts (g : GuestState) (cpu : ℕ) (op : Op) : Type 0 where
   pub has : Has g cpu op
   pub start : (processor_at g cpu).phase ≡ Start
   pub accepted : refusal_in g (process_of g.plan cpu) op ≡ None
-
-abbrev pub tag_in : Parts → Option ℕ → ℕ → Option Tag
-tag_in parts None index = None
-tag_in parts (Some slot) index = tag_at parts.maps slot index
-
--- the tag of the page that a command of a process needs
-abbrev pub wanted_tag : Parts → ℕ → Op → Option Tag
-wanted_tag parts process (Read file off len) = Some (File file (off / PAGE))
-wanted_tag parts process (Write file off bytes) = Some (File file (off / PAGE))
-wanted_tag parts process (Load number off len) = tag_in parts (find_slot parts.maps process number) (off / PAGE)
-wanted_tag parts process (Store number off bytes) = tag_in parts (find_slot parts.maps process number) (off / PAGE)
-wanted_tag parts process (Pin number index) = tag_in parts (find_slot parts.maps process number) index
-wanted_tag parts process (Unpin number index) = tag_in parts (find_slot parts.maps process number) index
-wanted_tag parts process (Sync file) = None
-wanted_tag parts process (MapFile number file first count writable) = None
-wanted_tag parts process (MapAnon number count) = None
-wanted_tag parts process (Unmap number) = None
 
 abbrev pub Wants : GuestState → ℕ → Op → Tag → Type 0
 Wants g cpu op tag = wanted_tag g.parts (process_of g.plan cpu) op ≡ Some tag
@@ -174,6 +159,81 @@ pub data SyncCase (g : GuestState) (cpu file index : ℕ) (v : StorageView) (d :
   write_failed : (page : ℕ) (cause : Cause) (after : Parts) → WritesBack g cpu file index page → GivenBack page v d w e → IsRehinted (unlocked g.parts page) page (v.values page) after (w.values page)
       → FailCause cause v d w e → h ≡ entered (with_parts g after) cpu (Sync file) (Fail cause) → t ≡ Finished → SyncCase g cpu file index v d h t w e
 
+-- a processor looks at an accepted command that needs a page with a tag that no page has, and no page is free
+pub record SeeksRoom (g : GuestState) (cpu : ℕ) (op : Op) : Type 0 where
+  pub starts : Starts g cpu op
+  pub tag : Tag
+  pub wants : Wants g cpu op tag
+  pub none : page_of g.parts.cache tag ≡ None
+  pub full : g.parts.pages.free ≡ []
+
+-- the first page that can go has this tag; nobody has it locked
+pub record Goes (g : GuestState) (tag : Tag) (page : ℕ) : Type 0 where
+  pub first : first_to_go g.parts ≡ Some page
+  pub has : HasPage g tag page
+
+-- a processor writes a page back to make room
+pub record PagesOut (g : GuestState) (cpu : ℕ) (op : Op) (tag : Tag) (page : ℕ) : Type 0 where
+  pub has : Has g cpu op
+  pub phase : (processor_at g cpu).phase ≡ AtRoom page
+  pub tagged : (info_at g.parts.pages page).tag ≡ Some tag
+
+-- what a turn did that was to make room
+pub data RoomCase (g : GuestState) (cpu : ℕ) (op : Op) (v : StorageView) (d : DiskView) (h : GuestState) (t : Turn) (w : StorageView) (e : DiskView) : Type 0 where
+  -- the page that can go had been discarded
+  room_gone : (tag : Tag) (page : ℕ) (found : PageValue) → SeeksRoom g cpu op → Goes g tag page → GivenBack page v d w e → MayBecome (v.values page) found → is_lost found.contents ≡ true
+      → IsMadeUnused found (w.values page) → h ≡ with_parts g (handled g.parts page) → t ≡ Moved → RoomCase g cpu op v d h t w e
+  -- it is clean, and was freed
+  was_cleared : (tag : Tag) (page : ℕ) (found : PageValue) → SeeksRoom g cpu op → Goes g tag page → GivenBack page v d w e → MayBecome (v.values page) found → is_lost found.contents ≡ false
+      → found.changed ≡ false → (info_at g.parts.pages page).dirty ≡ false → IsMadeUnused found (w.values page) → h ≡ with_parts g (behind (freed g.parts page) page) → t ≡ Moved
+      → RoomCase g cpu op v d h t w e
+  -- it is dirty, and was locked
+  was_locked_to_go : (tag : Tag) (page : ℕ) (found : PageValue) → SeeksRoom g cpu op → Goes g tag page → GivenBack page v d w e → MayBecome (v.values page) found
+      → is_lost found.contents ≡ false → (info_at (with_change g.parts page found.changed).pages page).dirty ≡ true → w.values page ≡ record found { usage = S; changed = false }
+      → h ≡ with_phase (with_parts g (locked_to_go (with_change g.parts page found.changed) page cpu)) cpu (AtRoom page) → t ≡ Moved → RoomCase g cpu op v d h t w e
+  -- it was busy
+  room_missed : (why : Why) → SeeksRoom g cpu op → h ≡ g → t ≡ Again why → AllMay v d w e → Misses v w → e ≡ d → RoomCase g cpu op v d h t w e
+  -- none can go, and one is locked
+  room_waited : (page owner : ℕ) → SeeksRoom g cpu op → first_to_go g.parts ≡ None → first_locked g.parts ≡ Some page → (info_at g.parts.pages page).owner ≡ Some owner
+      → h ≡ g → t ≡ Waits page owner → w ≡ v → e ≡ d → RoomCase g cpu op v d h t w e
+  -- none can go, and none is locked
+  had_no_page : SeeksRoom g cpu op → first_to_go g.parts ≡ None → first_locked g.parts ≡ None
+      → h ≡ entered g cpu op (Fail (NoPage (pinned_count g.parts) (length g.parts.pages.infos - pinned_count g.parts))) → t ≡ Finished → w ≡ v → e ≡ d → RoomCase g cpu op v d h t w e
+  -- the page that is to be written back was busy, or there was no frame
+  page_out_missed : (tag : Tag) (page : ℕ) (why : Why) → PagesOut g cpu op tag page → h ≡ g → t ≡ Again why → AllMay v d w e → Misses v w → e ≡ d → RoomCase g cpu op v d h t w e
+  -- it was written back. What was stored to it since it was locked makes it dirty again
+  was_paged_out : (tag : Tag) (page : ℕ) (bytes : List ℕ) (after : Parts) → PagesOut g cpu op tag page → (v.values page).contents ≡ Bytes bytes
+      → WrittenBack page tag g.parts.cache bytes v d w e
+      → IsRehinted (cleaned g.parts page) page (v.values page) after (w.values page) → h ≡ with_phase (with_parts g after) cpu Start → t ≡ Moved → RoomCase g cpu op v d h t w e
+  -- it couldn't be written back
+  page_out_failed : (tag : Tag) (page : ℕ) (cause : Cause) (after : Parts) → PagesOut g cpu op tag page → GivenBack page v d w e
+      → IsRehinted (unlocked g.parts page) page (v.values page) after (w.values page) → FailCause cause v d w e
+      → h ≡ entered (with_parts g after) cpu op (Fail cause) → t ≡ Finished → RoomCase g cpu op v d h t w e
+
+-- an unmap is behind page `index` of its slot, with these tables
+abbrev pub TearsPast : GuestState → (cpu slot index : ℕ) → Parts → GuestState → Turn → Type 0
+TearsPast g cpu slot index after h t = (h, t) ≡ torn_past (with_parts g after) cpu slot index (mapping_pages (slot_at g.parts.maps slot))
+
+-- a processor whose unmap takes page `index` off the mapping that was in a slot
+pub record Tears (g : GuestState) (cpu slot index : ℕ) : Type 0 where
+  pub phase : (processor_at g cpu).phase ≡ Teardown slot index
+  pub tearing : IsTearing g cpu slot index
+
+-- what a turn did that takes page `index` off the mapping that was in a slot
+pub data TearCase (g : GuestState) (cpu slot index : ℕ) (v : StorageView) (d : DiskView) (h : GuestState) (t : Turn) (w : StorageView) (e : DiskView) : Type 0 where
+  -- the place has no entry
+  had_no_entry : Tears g cpu slot index → entry_at g.parts.maps slot index ≡ None → TearsPast g cpu slot index g.parts h t → w ≡ v → e ≡ d → TearCase g cpu slot index v d h t w e
+  -- the page was busy
+  tear_missed : (why : Why) → Tears g cpu slot index → h ≡ g → t ≡ Again why → AllMay v d w e → Misses v w → e ≡ d → TearCase g cpu slot index v d h t w e
+  -- the page had been discarded
+  tear_gone : (tag : Tag) (pte : Pte) (found : PageValue) → Tears g cpu slot index → entry_at g.parts.maps slot index ≡ Some pte → HasPage g tag pte.page → GivenBack pte.page v d w e
+      → MayBecome (v.values pte.page) found → is_lost found.contents ≡ true → IsMadeUnused found (w.values pte.page) → TearsPast g cpu slot index (handled g.parts pte.page) h t
+      → TearCase g cpu slot index v d h t w e
+  -- the entry was cleared. Its page may be locked, to be written back
+  was_cleared_at : (tag : Tag) (pte : Pte) (found : PageValue) (after : Parts) → Tears g cpu slot index → entry_at g.parts.maps slot index ≡ Some pte → ShowsPage g tag pte.page
+      → GivenBack pte.page v d w e → MayBecome (v.values pte.page) found → IsRehinted (unmapped g.parts slot index pte) pte.page found after (w.values pte.page)
+      → TearsPast g cpu slot index after h t → TearCase g cpu slot index v d h t w e
+
 pub data TurnCase (g : GuestState) (cpu : ℕ) (v : StorageView) (d : DiskView) (h : GuestState) (t : Turn) (w : StorageView) (e : DiskView) : Type 0 where
   -- no command is left
   was_idle : command_of g.plan cpu (processor_at g cpu).place ≡ None → h ≡ g → t ≡ Idle → w ≡ v → e ≡ d → TurnCase g cpu v d h t w e
@@ -186,7 +246,7 @@ pub data TurnCase (g : GuestState) (cpu : ℕ) (v : StorageView) (d : DiskView) 
       (MapFile number file first count writable) Done
       → t ≡ Finished → w ≡ v → e ≡ d → TurnCase g cpu v d h t w e
   -- the page is locked
-  waited : (op : Op) (page owner : ℕ) → Starts g cpu op → (info_at g.parts.pages page).owner ≡ Some owner
+  waited : (op : Op) (page owner : ℕ) → Starts g cpu op → HasItsTag g cpu op page → (info_at g.parts.pages page).owner ≡ Some owner
       → h ≡ g → t ≡ Waits page owner → w ≡ v → e ≡ d → TurnCase g cpu v d h t w e
   -- the page was busy, or there was no frame, which a quiet storage never finds
   missed : (op : Op) (why : Why) → Has g cpu op → h ≡ g → t ≡ Again why → AllMay v d w e → Misses v w → e ≡ d → TurnCase g cpu v d h t w e
@@ -249,3 +309,11 @@ pub data TurnCase (g : GuestState) (cpu : ℕ) (v : StorageView) (d : DiskView) 
       → TurnCase g cpu v d h t w e
   -- a sync's turn
   was_sync : (file index : ℕ) → SyncCase g cpu file index v d h t w e → TurnCase g cpu v d h t w e
+  -- a turn that was to make room
+  was_room : (op : Op) → RoomCase g cpu op v d h t w e → TurnCase g cpu v d h t w e
+  -- a mapping ended
+  was_unmapped : (number slot : ℕ) → Starts g cpu (Unmap number) → find_slot g.parts.maps (process_of g.plan cpu) number ≡ Some slot
+      → h ≡ answered (with_parts g (record g.parts { maps = torn_slot g.parts.maps slot })) cpu (Unmap number) Done (Teardown slot 0) → t ≡ Moved → w ≡ v → e ≡ d
+      → TurnCase g cpu v d h t w e
+  -- a page was taken off the mapping that was in a slot
+  was_torn : (slot index : ℕ) → TearCase g cpu slot index v d h t w e → TurnCase g cpu v d h t w e

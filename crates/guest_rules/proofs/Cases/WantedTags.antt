@@ -24,7 +24,7 @@ use Rattle.guest_rules.specs.declared.parts.Parts.{Parts}
 use Rattle.guest_rules.specs.GuestState.{GuestState, processor_at}
 use Rattle.guest_rules.specs.Turns.{file_pages, file_has_bytes, refusal_in}
 use Rattle.guest_rules.specs.Fit.{SizesFit, SlotsFit}
-use Rattle.guest_rules.proofs.Cases.TurnCases.{Has, Starts, Wants, tag_in}
+use Rattle.guest_rules.proofs.Cases.TurnCases.{Has, Starts, Wants, found_tag}
 use Rattle.guest_rules.proofs.Cases.Commands.{command-in_range}
 
 -- ---- what a place of a mapping shows
@@ -69,7 +69,7 @@ shows_at state parts slot index tag f e = of (slot_at parts.maps slot) refl e
           within = its.1.5;
         }
 
-pub tag_in-Some : (parts : Parts) (o : Option ℕ) (index : ℕ) (tag : Tag) → tag_in parts o index ≡ Some tag → (slot : ℕ) × (o ≡ Some slot) × (tag_at parts.maps slot index ≡ Some tag)
+pub tag_in-Some : (parts : Parts) (o : Option ℕ) (index : ℕ) (tag : Tag) → found_tag parts o index ≡ Some tag → (slot : ℕ) × (o ≡ Some slot) × (tag_at parts.maps slot index ≡ Some tag)
 tag_in-Some parts None index tag e = let bad : None ≡ Some tag = e in absurd cc
 tag_in-Some parts (Some slot) index tag e = (slot, refl, e)
 
@@ -143,7 +143,7 @@ wanted-bytes g file off len tag k piece wants =
 pub wanted-shown : (parts : Parts) (slot index : ℕ) (tag : Tag) → ShowsAt parts slot index tag → IsWanted parts tag
 wanted-shown parts slot index tag k = wanted-file parts tag k.file (k.first + index) k.is k.file_below (omega (arith, k.below, k.within))
 
-wanted-in : (state : FlatState) (parts : Parts) (o : Option ℕ) (index : ℕ) (tag : Tag) → SlotsFit state parts → tag_in parts o index ≡ Some tag → IsWanted parts tag
+wanted-in : (state : FlatState) (parts : Parts) (o : Option ℕ) (index : ℕ) (tag : Tag) → SlotsFit state parts → found_tag parts o index ≡ Some tag → IsWanted parts tag
 wanted-in state parts o index tag f e = let k = tag_in-Some parts o index tag e in wanted-shown parts k.0 index tag (shows_at state parts k.0 index tag f k.2)
 
 pub is_wanted : (state : FlatState) (g : GuestState) (v : StorageView) (d : DiskView) (cpu : ℕ) (op : Op) (tag : Tag) → SizesFit g v d → SlotsFit state g.parts → Starts g cpu op

@@ -1,20 +1,22 @@
 -- What a turn that moved, or that finished its command, left of the journal and of its processor.
 use Rattle.std.specs.Prelude.{◌≡◌, ℕ, Some}
-use Rattle.std.proofs.Common.{sym, ap, subst, ◌∙◌}
+use Rattle.std.proofs.Common.{sym, ap, subst, inl, ◌∙◌}
 use Rattle.cmm_types.specs.declared.command.Op.{Op}
-use Rattle.cmm_types.specs.declared.command.Op.TheVariants.{Sync}
+use Rattle.cmm_types.specs.declared.command.Op.TheVariants.{Sync, Unmap}
 use Rattle.cmm_types.specs.declared.command.Reply.{Reply}
 use Rattle.cmm_types.specs.declared.command.Reply.TheVariants.{Fail}
 use Rattle.cmm_types.specs.declared.command.Cause.{Cause}
 use Rattle.cmm_types.specs.declared.command.Cause.TheVariants.{Disk, Paging, NoPage}
+use Rattle.cmm_types.specs.declared.turn.Turn.TheVariants.{Finished}
+use Rattle.cmm_flat.specs.Legal.{command_of}
 use Rattle.cmm_io.specs.DiskView.{DiskView}
 use Rattle.cmm_storage.specs.StorageView.{StorageView}
 use Rattle.guest_rules.specs.declared.parts.Parts.{Parts}
 use Rattle.guest_rules.specs.declared.processor.Phase.{Phase}
-use Rattle.guest_rules.specs.declared.processor.Phase.TheVariants.{Fill}
+use Rattle.guest_rules.specs.declared.processor.Phase.TheVariants.{Fill, Room as AtRoom}
 use Rattle.guest_rules.specs.GuestState.{GuestState, processor_at, with_parts, with_phase, entered}
 use Rattle.guest_rules.specs.Fit.{Fit, NeedsPage}
-use Rattle.guest_rules.specs.Cause.{HasMoved, HasFinished, HasShown, SyncLeads, SyncMoves, ReplyCause}
+use Rattle.guest_rules.specs.Cause.{AnswerCause, HasMoved, HasShown, SyncLeads, SyncMoves, ReplyCause}
 use Rattle.guest_rules.specs.Answers.{FailCause}
 use Rattle.guest_rules.proofs.Cases.TurnCases.{Has}
 use Rattle.guest_rules.proofs.Causes.Processors.{processor-with_phase, processor-entered}
@@ -22,7 +24,7 @@ use Rattle.guest_rules.proofs.Causes.Processors.{processor-with_phase, processor
 -- the tables changed
 pub moved_parts : (g : GuestState) (cpu : ℕ) (op : Op) (parts : Parts) (h : GuestState) → Has g cpu op → h ≡ with_parts g parts → HasMoved g cpu h
 moved_parts g cpu op parts h has e = record {
-  journal = ap (λ q. q.journal) e;
+  journal = inl (ap (λ q. q.journal) e);
   place = ap (λ q. (processor_at q cpu).place) e;
   command = (op, has.command);
 }
@@ -31,16 +33,17 @@ moved_parts g cpu op parts h has e = record {
 pub moved_phase : (g : GuestState) (cpu : ℕ) (op : Op) (parts : Parts) (phase : Phase) (h : GuestState) → Has g cpu op → h ≡ with_phase (with_parts g parts) cpu phase → HasMoved g cpu h
 unfolding with_phase
 moved_phase g cpu op parts phase h has e = record {
-  journal = ap (λ q. q.journal) e;
+  journal = inl (ap (λ q. q.journal) e);
   place = ap (λ q. (processor_at q cpu).place) e ∙ ap (λ q. q.place) (processor-with_phase (with_parts g parts) cpu phase has.below);
   command = (op, has.command);
 }
 
 -- the reply was entered
 pub finished : (g : GuestState) (v w : StorageView) (d e : DiskView) (cpu : ℕ) (op : Op) (parts : Parts) (reply : Reply) (h : GuestState) → Has g cpu op
-    → h ≡ entered (with_parts g parts) cpu op reply → ReplyCause g cpu op v d reply w e → HasShown g cpu op reply (entered (with_parts g parts) cpu op reply) w e → HasFinished g v d cpu h w e
+    → h ≡ entered (with_parts g parts) cpu op reply → ReplyCause g cpu op v d reply w e → HasShown g cpu op reply (entered (with_parts g parts) cpu op reply) w e
+    → AnswerCause g v d cpu Finished h w e
 unfolding entered
-finished g v w d e cpu op parts reply h has eh cause shown = record {
+finished g v w d e cpu op parts reply h has eh cause shown = inl (record {
   op = op;
   reply = reply;
   command = has.command;
@@ -48,12 +51,12 @@ finished g v w d e cpu op parts reply h has eh cause shown = record {
   next = ap (λ q. processor_at q cpu) eh ∙ processor-entered (with_parts g parts) cpu op reply has.below;
   cause = cause;
   shown = rw eh shown;
-}
+})
 
 pub fill_cause : (g : GuestState) (v w : StorageView) (d e : DiskView) (cpu : ℕ) (op : Op) (cause : Cause) → FailCause cause v d w e → ReplyCause g cpu op v d (Fail cause) w e
 fill_cause g v w d e cpu op Disk why = why
 fill_cause g v w d e cpu op Paging why = why
-fill_cause g v w d e cpu op (NoPage pinned unslotted) why = why
+fill_cause g v w d e cpu op (NoPage pinned unslotted) why = absurd why
 
 -- the phase after a turn that changed it
 pub phase_after : (g : GuestState) (cpu : ℕ) (op : Op) (parts : Parts) (phase : Phase) (h : GuestState) → Has g cpu op → h ≡ with_phase (with_parts g parts) cpu phase
@@ -75,11 +78,35 @@ others_move g cpu op h w e has other file command =
     let same : op ≡ Sync file = cc in
     absurd (other file same)
 
--- a processor that fills a page has no sync
+-- a processor that has a command that needs a page has no other
+needing_page : (g : GuestState) (cpu : ℕ) (op needing : Op) → Has g cpu op → command_of g.plan cpu (processor_at g cpu).place ≡ Some needing → NeedsPage needing → NeedsPage op
+needing_page g cpu op needing has command needs =
+    let both : Some needing ≡ Some op = sym command ∙ has.command in
+    let same : needing ≡ op = cc in
+    subst NeedsPage same needs
+
+-- as one that fills a page
+pub fills_needing : (g : GuestState) (v : StorageView) (d : DiskView) (cpu : ℕ) (op : Op) (page : ℕ) → Fit g v d → Has g cpu op → (processor_at g cpu).phase ≡ Fill page → NeedsPage op
+fills_needing g v d cpu op page f has phase = let k = (f.locks.filling cpu page phase).1 in needing_page g cpu op k.op has k.command k.needs
+
+-- and one that writes a page back to make room
+pages_out_needing : (g : GuestState) (v : StorageView) (d : DiskView) (cpu : ℕ) (op : Op) (page : ℕ) → Fit g v d → Has g cpu op → (processor_at g cpu).phase ≡ AtRoom page → NeedsPage op
+pages_out_needing g v d cpu op page f has phase = let k = f.locks.paging_out cpu page phase in needing_page g cpu op k.op has k.command k.needs
+
+-- so neither has a sync
 pub fills_for_other : (g : GuestState) (v : StorageView) (d : DiskView) (cpu : ℕ) (op : Op) (page : ℕ) → Fit g v d → Has g cpu op → (processor_at g cpu).phase ≡ Fill page → (file : ℕ)
     → op ≡ Sync file → ⊥
-fills_for_other g v d cpu op page f has phase file is =
-    let k = (f.locks.filling cpu page phase).1 in
-    let both : Some k.op ≡ Some (Sync file) = sym k.command ∙ has.command ∙ ap Some is in
-    let same : k.op ≡ Sync file = cc in
-    subst NeedsPage same k.needs
+fills_for_other g v d cpu op page f has phase file is = subst NeedsPage is (fills_needing g v d cpu op page f has phase)
+
+pub pages_out_for_other : (g : GuestState) (v : StorageView) (d : DiskView) (cpu : ℕ) (op : Op) (page : ℕ) → Fit g v d → Has g cpu op → (processor_at g cpu).phase ≡ AtRoom page → (file : ℕ)
+    → op ≡ Sync file → ⊥
+pages_out_for_other g v d cpu op page f has phase file is = subst NeedsPage is (pages_out_needing g v d cpu op page f has phase)
+
+-- nor an unmap
+pub fills_no_unmap : (g : GuestState) (v : StorageView) (d : DiskView) (cpu : ℕ) (op : Op) (page : ℕ) → Fit g v d → Has g cpu op → (processor_at g cpu).phase ≡ Fill page → (number : ℕ)
+    → op ≡ Unmap number → ⊥
+fills_no_unmap g v d cpu op page f has phase number is = subst NeedsPage is (fills_needing g v d cpu op page f has phase)
+
+pub pages_out_no_unmap : (g : GuestState) (v : StorageView) (d : DiskView) (cpu : ℕ) (op : Op) (page : ℕ) → Fit g v d → Has g cpu op → (processor_at g cpu).phase ≡ AtRoom page → (number : ℕ)
+    → op ≡ Unmap number → ⊥
+pages_out_no_unmap g v d cpu op page f has phase number is = subst NeedsPage is (pages_out_needing g v d cpu op page f has phase)

@@ -1,5 +1,5 @@
 -- Why a turn answered as it did, from its case.
-use Rattle.std.specs.Prelude.{◌≡◌, ◌⊎◌, ℕ, Bool, true, false, Some}
+use Rattle.std.specs.Prelude.{◌≡◌, ◌⊎◌, ℕ, Bool, true, false, Some, None}
 use Rattle.std.proofs.Common.{sym, ap, inl, inr, ◌∙◌}
 use Rattle.cmm_types.specs.declared.page.Tag.{Tag}
 use Rattle.cmm_types.specs.declared.command.Op.{Op}
@@ -7,26 +7,32 @@ use Rattle.cmm_types.specs.declared.command.Op.TheVariants.{Read, Write, MapFile
 use Rattle.cmm_types.specs.declared.command.Reply.TheVariants.{Done, Refused, Fail}
 use Rattle.cmm_types.specs.declared.command.Cause.TheVariants.{Paging}
 use Rattle.cmm_types.specs.declared.turn.Turn.{Turn}
-use Rattle.cmm_flat.specs.Legal.{flat_of}
+use Rattle.cmm_flat.specs.Legal.{flat_of, process_of}
 use Rattle.cmm_io.specs.DiskView.{DiskView}
 use Rattle.essa_state.specs.PageValue.{PageValue, MayBecome, is_lost}
 use Rattle.cmm_storage.specs.StorageView.{StorageView}
+use Rattle.guest_cache.specs.CacheView.{page_of}
 use Rattle.guest_rules.specs.declared.parts.Parts.{Parts}
-use Rattle.guest_rules.specs.declared.processor.Phase.TheVariants.{Start}
+use Rattle.guest_rules.specs.declared.processor.Phase.TheVariants.{Start, Fill}
 use Rattle.guest_rules.specs.GuestState.{GuestState, with_parts}
 use Rattle.guest_rules.specs.Rows.{with_change, dirtied}
+use Rattle.guest_rules.specs.Stuck.{NeedsFreePage}
 use Rattle.guest_rules.specs.Fit.{Fit}
 use Rattle.guest_rules.specs.Cause.{AnswerCause, IsAccepted}
-use Rattle.guest_rules.proofs.Cases.TurnCases.{TurnCase, was_idle, was_refused, was_mapped, waited, missed, missed_rehinted, was_begun, was_gone, was_read, was_written, touch_failed, was_resolved, was_loaded, was_stored, entry_failed, fill_failed, was_filled, was_pinned, pin_op, was_sync, Starts, HasPage}
+use Rattle.guest_rules.proofs.Cases.TurnCases.{TurnCase, was_idle, was_refused, was_mapped, waited, missed, missed_rehinted, was_begun, was_gone, was_read, was_written, touch_failed, was_resolved, was_loaded, was_stored, entry_failed, fill_failed, was_filled, was_pinned, pin_op, was_sync, was_room, was_unmapped, was_torn, Has, Starts, HasPage, HasItsTag, wanted_tag}
 use Rattle.guest_rules.proofs.Rows.Values.{may_used}
 use Rattle.guest_rules.proofs.Ready.Ready.{can_be_used}
-use Rattle.guest_rules.proofs.Bound.Ranks.{wants_not_sync}
+use Rattle.guest_rules.proofs.Bound.Ranks.{wants_not_sync, wants_not_unmap}
 use Rattle.guest_rules.proofs.Fit.Replies.{refused-same}
 use Rattle.guest_rules.proofs.Causes.ShownWritten.{shows_written}
 use Rattle.guest_rules.proofs.Causes.ShownPins.{shows_pinned}
 use Rattle.guest_rules.proofs.Kept.LocksKept.{locks_none}
-use Rattle.guest_rules.proofs.Causes.CauseForms.{moved_parts, moved_phase, finished, fill_cause, others_move, fills_for_other}
+use Rattle.guest_rules.proofs.Causes.CauseForms.{moved_parts, moved_phase, phase_after, finished, fill_cause, others_move, fills_for_other, fills_no_unmap}
+use Rattle.guest_rules.proofs.Causes.RoomMoves.{no_room, starts_again}
+use Rattle.guest_rules.proofs.Causes.RoomCauses.{room_causes}
 use Rattle.guest_rules.proofs.Causes.SyncCauses.{sync_causes}
+use Rattle.guest_rules.proofs.Causes.TearMoves.{moves_on, stays_at_start}
+use Rattle.guest_rules.proofs.Causes.TearCauses.{unmap_causes, tear_causes}
 use Rattle.guest_rules.proofs.Causes.ShownEntries.{shows_loaded, shows_stored}
 
 -- a page that is told again was changed, or nothing changed
@@ -47,6 +53,15 @@ found_changed g v d page tag found f has may there =
 accepted : (g : GuestState) (v : StorageView) (d : DiskView) (cpu : ℕ) (op : Op) → Fit g v d → Starts g cpu op → IsAccepted g cpu op
 accepted g v d cpu op f starts = refused-same g v d cpu op f starts.has ∙ starts.accepted
 
+-- a command whose page is there needs no free one
+has_its_page : (g : GuestState) (cpu : ℕ) (op needing : Op) (page : ℕ) → Has g cpu op → HasItsTag g cpu op page → NeedsFreePage g cpu needing → ⊥
+has_its_page g cpu op needing page has its needs =
+    let both : Some op ≡ Some needing = sym has.command ∙ needs.command in
+    let same : op ≡ needing = cc in
+    let tags : Some its.tag ≡ Some needs.tag = sym its.wants ∙ ap (wanted_tag g.parts (process_of g.plan cpu)) same ∙ needs.wants in
+    let tag : its.tag ≡ needs.tag = cc in
+    let bad : Some page ≡ None = sym its.found ∙ ap (page_of g.parts.cache) tag ∙ needs.none in cc
+
 -- every turn answers for a cause
 pub answer_causes : (g : GuestState) (v w : StorageView) (d e : DiskView) (cpu : ℕ) (h : GuestState) (t : Turn) → Fit g v d → TurnCase g cpu v d h t w e → AnswerCause g v d cpu t h w e
 answer_causes g v w d e cpu h t f (was_idle none eh et ew ee) = rw et (eh, ew, ee, none)
@@ -54,7 +69,7 @@ answer_causes g v w d e cpu h t f (was_refused op refusal has start refused eh e
     rw et (finished g v w d e cpu op g.parts (Refused refusal) h has eh (record { command = has.command; start = start; refused = refused-same g v d cpu op f has ∙ refused }) tt)
 answer_causes g v w d e cpu h t f (was_mapped number file first count writable slot starts free eh et ew ee) =
     rw et (finished g v w d e cpu (MapFile number file first count writable) _ Done h starts.has eh (accepted g v d cpu (MapFile number file first count writable) f starts) tt)
-answer_causes g v w d e cpu h t f (waited op page owner starts locked eh et ew ee) =
+answer_causes g v w d e cpu h t f (waited op page owner starts its locked eh et ew ee) =
     rw et (
       eh,
       ew,
@@ -63,6 +78,7 @@ answer_causes g v w d e cpu h t f (waited op page owner starts locked eh et ew e
         locked = locked;
         command = (op, starts.has.command);
         other = λ same. locks_none g cpu Start starts.start tt page (f.locks.locked cpu page (locked ∙ ap Some same));
+        room = λ needing needs. absurd (has_its_page g cpu op needing page starts.has its needs);
       },
     )
 answer_causes g v w d e cpu h t f (missed op why has eh et may misses ee) = rw et (record { tables = inl eh; command = (op, has.command) }, ee, misses.risen)
@@ -73,9 +89,19 @@ answer_causes g v w d e cpu h t f (missed_rehinted why op tag page found after s
       misses.risen,
     )
 answer_causes g v w d e cpu h t f (was_begun op tag page rest found starts wants none free eh et back may value) =
-    rw et (moved_phase g cpu op _ _ h starts.has eh, others_move g cpu op h w e starts.has (λ file is. wants_not_sync g cpu op tag file wants is))
+    rw et (
+      moved_phase g cpu op _ _ h starts.has eh,
+      others_move g cpu op h w e starts.has (λ file is. wants_not_sync g cpu op tag file wants is),
+      no_room g h w e cpu Start (Fill page) starts.start (phase_after g cpu op _ (Fill page) h starts.has eh) tt tt,
+      moves_on g h cpu op _ (Fill page) starts.has (λ number is. wants_not_unmap g cpu op tag number wants is) eh tt,
+    )
 answer_causes g v w d e cpu h t f (was_gone op tag page found starts wants has eh et back may lost unused quiet) =
-    rw et (moved_parts g cpu op _ h starts.has eh, others_move g cpu op h w e starts.has (λ file is. wants_not_sync g cpu op tag file wants is))
+    rw et (
+      moved_parts g cpu op _ h starts.has eh,
+      others_move g cpu op h w e starts.has (λ file is. wants_not_sync g cpu op tag file wants is),
+      starts_again g h w e cpu op _ starts eh,
+      stays_at_start g h cpu op _ starts (λ number is. wants_not_unmap g cpu op tag number wants is) eh,
+    )
 answer_causes g v w d e cpu h t f (was_read file off len page found all after starts has back may are told eh et) =
     rw et (finished g v w d e cpu (Read file off len) after _ h starts.has eh (accepted g v d cpu (Read file off len) f starts) tt)
 answer_causes g v w d e cpu h t f (was_written file off bytes page found all starts has back may are value eh et) =
@@ -84,7 +110,12 @@ answer_causes g v w d e cpu h t f (was_written file off bytes page found all sta
 answer_causes g v w d e cpu h t f (touch_failed op tag page found after needs starts wants has back may told eh et risen) =
     rw et (finished g v w d e cpu op after (Fail Paging) h starts.has eh risen tt)
 answer_causes g v w d e cpu h t f (was_resolved op tag writes slot off page found after starts wants maps has can back may told eh et) =
-    rw et (moved_parts g cpu op _ h starts.has eh, others_move g cpu op h w e starts.has (λ file is. wants_not_sync g cpu op tag file wants is))
+    rw et (
+      moved_parts g cpu op _ h starts.has eh,
+      others_move g cpu op h w e starts.has (λ file is. wants_not_sync g cpu op tag file wants is),
+      starts_again g h w e cpu op _ starts eh,
+      stays_at_start g h cpu op _ starts (λ number is. wants_not_unmap g cpu op tag number wants is) eh,
+    )
 answer_causes g v w d e cpu h t f (was_loaded number off len slot page writable all starts at_slot at are eh et may) =
     rw et (finished g v w d e cpu (Load number off len) g.parts _ h starts.has eh (accepted g v d cpu (Load number off len) f starts)
     (shows_loaded _ g v w d cpu number off len slot _ _ f starts at_slot at))
@@ -99,5 +130,13 @@ answer_causes g v w d e cpu h t f (entry_failed op writes slot off starts maps e
 answer_causes g v w d e cpu h t f (fill_failed op page cause has phase eh et back unused why) =
     rw et (finished g v w d e cpu op _ (Fail cause) h has eh (fill_cause g v w d e cpu op cause why) tt)
 answer_causes g v w d e cpu h t f (was_filled op page tag has phase tagged eh et back value) =
-    rw et (moved_phase g cpu op _ _ h has eh, others_move g cpu op h w e has (fills_for_other g v d cpu op page f has phase))
+    rw et (
+      moved_phase g cpu op _ _ h has eh,
+      others_move g cpu op h w e has (fills_for_other g v d cpu op page f has phase),
+      no_room g h w e cpu (Fill page) Start phase (phase_after g cpu op _ Start h has eh) tt tt,
+      moves_on g h cpu op _ Start has (fills_no_unmap g v d cpu op page f has phase) eh tt,
+    )
 answer_causes g v w d e cpu h t f (was_sync file index k) = sync_causes g v w d e cpu file index h t f k
+answer_causes g v w d e cpu h t f (was_room op k) = room_causes g v w d e cpu op h t f k
+answer_causes g v w d e cpu h t f (was_unmapped number slot starts found eh et ew ee) = unmap_causes g v w d e cpu number slot h t f starts found eh et
+answer_causes g v w d e cpu h t f (was_torn slot index k) = tear_causes g v w d e cpu slot index h t f k

@@ -2,6 +2,7 @@
 use Rattle.std.specs.Prelude.{◌≡◌, ◌⊎◌, ℕ, true, false}
 use Rattle.std.proofs.Common.{arith, sym, ap, inl, inr, ◌∙◌}
 use Rattle.std.proofs.lemmas.Bool.{cases_eq}
+use Rattle.cmm_types.specs.declared.command.Op.{Op}
 use Rattle.cmm_types.specs.declared.turn.Turn.{Turn}
 use Rattle.cmm_io.specs.DiskView.{DiskView}
 use Rattle.essa_state.specs.PageValue.{PageValue, Contents, IsMadeUnused, MayBecome, is_lost, may_lose, stable_contents}
@@ -9,7 +10,7 @@ use Rattle.cmm_storage.specs.StorageView.{StorageView, Keeps}
 use Rattle.guest_rules.specs.declared.parts.Parts.{Parts}
 use Rattle.guest_rules.specs.GuestState.{GuestState}
 use Rattle.guest_rules.specs.Cause.{NoWrongDiscard}
-use Rattle.guest_rules.proofs.Cases.TurnCases.{TurnCase, was_idle, was_refused, was_mapped, waited, missed, missed_rehinted, was_begun, was_gone, was_read, was_written, touch_failed, was_resolved, was_loaded, was_stored, entry_failed, fill_failed, was_filled, GivenBack, AllMay, IsRehinted, was_pinned, was_sync, SyncCase, not_there, sync_waited, sync_missed, sync_gone, was_clean, was_locked, write_missed, was_written_back, write_failed}
+use Rattle.guest_rules.proofs.Cases.TurnCases.{TurnCase, was_idle, was_refused, was_mapped, waited, missed, missed_rehinted, was_begun, was_gone, was_read, was_written, touch_failed, was_resolved, was_loaded, was_stored, entry_failed, fill_failed, was_filled, GivenBack, AllMay, IsRehinted, was_pinned, was_sync, SyncCase, not_there, sync_waited, sync_missed, sync_gone, was_clean, was_locked, write_missed, was_written_back, write_failed, was_unmapped, was_torn, TearCase, had_no_entry, tear_missed, tear_gone, was_cleared_at, was_room, RoomCase, room_gone, was_cleared, was_locked_to_go, room_missed, room_waited, had_no_page, page_out_missed, was_paged_out, page_out_failed}
 use Rattle.guest_rules.proofs.Rows.Values.{unused_there}
 
 -- the host discards only what it may
@@ -52,12 +53,29 @@ sync_discards g v w d e cpu file index h t (write_missed page why k eh et may mi
 sync_discards g v w d e cpu file index h t (was_written_back page bytes after k are written told passes) = but_kept page v w written.keeps (told_kept _ _ _ _ _ told)
 sync_discards g v w d e cpu file index h t (write_failed page cause after k back told why eh et) = but_one page v w d e back (told_kept _ _ _ _ _ told)
 
+room_discards : (g : GuestState) (v w : StorageView) (d e : DiskView) (cpu : ℕ) (op : Op) (h : GuestState) (t : Turn) → RoomCase g cpu op v d h t w e → NoWrongDiscard v w
+room_discards g v w d e cpu op h t (room_gone tag page found k goes back may lost unused eh et) = but_one page v w d e back (unused_kept _ _ unused)
+room_discards g v w d e cpu op h t (was_cleared tag page found k goes back may there unchanged clean unused eh et) = but_one page v w d e back (unused_kept _ _ unused)
+room_discards g v w d e cpu op h t (was_locked_to_go tag page found k goes back may there dirty value eh et) = but_one page v w d e back (ap (λ q. is_lost q.contents) value ∙ there)
+room_discards g v w d e cpu op h t (room_missed why k eh et may misses ee) = all_pages v w d e may
+room_discards g v w d e cpu op h t (room_waited page owner k none first locked eh et ew ee) = unchanged v w ew
+room_discards g v w d e cpu op h t (had_no_page k none unlocked eh et ew ee) = unchanged v w ew
+room_discards g v w d e cpu op h t (page_out_missed tag page why k eh et may misses ee) = all_pages v w d e may
+room_discards g v w d e cpu op h t (was_paged_out tag page bytes after k are written told eh et) = but_kept page v w written.keeps (told_kept _ _ _ _ _ told)
+room_discards g v w d e cpu op h t (page_out_failed tag page cause after k back told why eh et) = but_one page v w d e back (told_kept _ _ _ _ _ told)
+
+tear_discards : (g : GuestState) (v w : StorageView) (d e : DiskView) (cpu slot index : ℕ) (h : GuestState) (t : Turn) → TearCase g cpu slot index v d h t w e → NoWrongDiscard v w
+tear_discards g v w d e cpu slot index h t (had_no_entry k none passes ew ee) = unchanged v w ew
+tear_discards g v w d e cpu slot index h t (tear_missed why k eh et may misses ee) = all_pages v w d e may
+tear_discards g v w d e cpu slot index h t (tear_gone tag pte found k entry has back may lost unused passes) = but_one pte.page v w d e back (unused_kept _ _ unused)
+tear_discards g v w d e cpu slot index h t (was_cleared_at tag pte found after k entry shows back may told passes) = but_one pte.page v w d e back (told_kept _ _ _ _ _ told)
+
 -- no turn discards a page that may not be discarded
 pub turn_discards : (g : GuestState) (v w : StorageView) (d e : DiskView) (cpu : ℕ) (h : GuestState) (t : Turn) → TurnCase g cpu v d h t w e → NoWrongDiscard v w
 turn_discards g v w d e cpu h t (was_idle none eh et ew ee) = unchanged v w ew
 turn_discards g v w d e cpu h t (was_refused op refusal has start refused eh et ew ee) = unchanged v w ew
 turn_discards g v w d e cpu h t (was_mapped number file first count writable slot starts free eh et ew ee) = unchanged v w ew
-turn_discards g v w d e cpu h t (waited op page owner starts locked eh et ew ee) = unchanged v w ew
+turn_discards g v w d e cpu h t (waited op page owner starts its locked eh et ew ee) = unchanged v w ew
 turn_discards g v w d e cpu h t (missed op why has eh et may misses ee) = all_pages v w d e may
 turn_discards g v w d e cpu h t (missed_rehinted why op tag page found after starts wants has eh et back may told misses ee) = but_one page v w d e back (told_kept _ _ _ _ _ told)
 turn_discards g v w d e cpu h t (was_begun op tag page rest found starts wants none free eh et back may value) =
@@ -74,3 +92,6 @@ turn_discards g v w d e cpu h t (entry_failed op writes slot off starts maps eh 
 turn_discards g v w d e cpu h t (fill_failed op page cause has phase eh et back unused why) = but_one page v w d e back (unused_kept _ _ unused)
 turn_discards g v w d e cpu h t (was_filled op page tag has phase tagged eh et back value) = but_one page v w d e back (ap (λ q. is_lost q.contents) value)
 turn_discards g v w d e cpu h t (was_sync file index k) = sync_discards g v w d e cpu file index h t k
+turn_discards g v w d e cpu h t (was_room op k) = room_discards g v w d e cpu op h t k
+turn_discards g v w d e cpu h t (was_unmapped number slot starts found eh et ew ee) = unchanged v w ew
+turn_discards g v w d e cpu h t (was_torn slot index k) = tear_discards g v w d e cpu slot index h t k

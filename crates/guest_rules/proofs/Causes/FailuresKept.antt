@@ -1,5 +1,5 @@
 -- No more commands of a guest fail than calls of its disk and its pager do.
-use Rattle.std.specs.Prelude.{◌≡◌, ◌<◌, ◌≤◌, ℕ, zero, suc, ◌+◌, ◌-◌, ◌^◌, ◌++◌, ◌∷◌, [], List, length, Bool, cond}
+use Rattle.std.specs.Prelude.{◌≡◌, ◌⊎◌, ◌<◌, ◌≤◌, ℕ, zero, suc, ◌+◌, ◌-◌, ◌^◌, ◌++◌, ◌∷◌, [], List, length, Bool, cond}
 use Rattle.std.proofs.Common.{sym, ap, subst, inl, inr, arith, ◌∙◌}
 use Rattle.std.proofs.lemmas.List.Sums.{sum_by-cons, sum_by_push, count_by-le-length}
 use Rattle.cmm_types.specs.declared.plan.GuestPlan.{GuestPlan}
@@ -21,7 +21,7 @@ use Rattle.guest_rules.specs.GuestState.{GuestState, opening_guest}
 use Rattle.guest_rules.specs.Turns.{turn}
 use Rattle.guest_rules.specs.Alone.{alone_after, alone_within}
 use Rattle.guest_rules.specs.Fit.{Fit}
-use Rattle.guest_rules.specs.Cause.{AnswerCause, HasFinished, HasToWait, ReplyCause}
+use Rattle.guest_rules.specs.Cause.{AnswerCause, HasFinished, HasUnmapped, HasToWait, ReplyCause}
 use Rattle.guest_rules.specs.Failures.{FailuresFit, disk_failures, paging_failures, is_disk_failure, is_paging_failure, replies_of}
 use Rattle.guest_rules.specs.FlatReplies.{IsFlatReply, HasFlatRepliesFrom}
 use Rattle.guest_rules.proofs.Ready.ReadyCalls.{journal-most, all_commands-bound}
@@ -67,11 +67,23 @@ kept_finished g h v w d e cpu f paging disk failures k =
       paging = omega (arith, paging_one, paging_more g cpu k.op v w d e k.reply (paging_failures g.journal) k.cause failures.paging (short is_paging_failure g v d f) paging);
     }
 
+-- an unmap that is answered hasn't failed
+kept_unmapped : (g h : GuestState) (v w : StorageView) (d e : DiskView) (cpu : ℕ) → v.faults ≤ w.faults → d.faults ≤ e.faults → FailuresFit g v d → HasUnmapped g cpu h → FailuresFit h w e
+kept_unmapped g h v w d e cpu paging disk failures k =
+    let disk_same : disk_failures h.journal ≡ disk_failures g.journal + 0 = ap (replies_of is_disk_failure) k.entry ∙ replies-push is_disk_failure g.journal _ in
+    let paging_same : paging_failures h.journal ≡ paging_failures g.journal + 0 = ap (replies_of is_paging_failure) k.entry ∙ replies-push is_paging_failure g.journal _ in
+    record { disk = omega (arith, disk_same, failures.disk, disk); paging = omega (arith, paging_same, failures.paging, paging) }
+
 kept_same : (g h : GuestState) (v w : StorageView) (d e : DiskView) → v.faults ≤ w.faults → d.faults ≤ e.faults → FailuresFit g v d → h.journal ≡ g.journal → FailuresFit h w e
 kept_same g h v w d e paging disk failures same =
     let disk_same : disk_failures h.journal ≡ disk_failures g.journal = ap (replies_of is_disk_failure) same in
     let paging_same : paging_failures h.journal ≡ paging_failures g.journal = ap (replies_of is_paging_failure) same in
     record { disk = omega (arith, disk_same, failures.disk, disk); paging = omega (arith, paging_same, failures.paging, paging) }
+
+kept_moved : (g h : GuestState) (v w : StorageView) (d e : DiskView) (cpu : ℕ) → v.faults ≤ w.faults → d.faults ≤ e.faults → FailuresFit g v d
+    → (h.journal ≡ g.journal) ⊎ HasUnmapped g cpu h → FailuresFit h w e
+kept_moved g h v w d e cpu paging disk failures (inl same) = kept_same g h v w d e paging disk failures same
+kept_moved g h v w d e cpu paging disk failures (inr unmapped) = kept_unmapped g h v w d e cpu paging disk failures unmapped
 
 waits_same : (g h : GuestState) (v : StorageView) (cpu : ℕ) → HasToWait g v cpu h → h.journal ≡ g.journal
 waits_same g h v cpu waits = elim waits.tables [
@@ -81,8 +93,9 @@ waits_same g h v cpu waits = elim waits.tables [
 
 kept_turn : (g h : GuestState) (v w : StorageView) (d e : DiskView) (cpu : ℕ) (t : Turn) → Fit g v d → v.faults ≤ w.faults → d.faults ≤ e.faults → FailuresFit g v d → AnswerCause g v d cpu t h w e
     → FailuresFit h w e
-kept_turn g h v w d e cpu Moved f paging disk failures (moved, passes) = kept_same g h v w d e paging disk failures moved.journal
-kept_turn g h v w d e cpu Finished f paging disk failures finished = kept_finished g h v w d e cpu f paging disk failures finished
+kept_turn g h v w d e cpu Moved f paging disk failures (moved, syncs, room, tears) = kept_moved g h v w d e cpu paging disk failures moved.journal
+kept_turn g h v w d e cpu Finished f paging disk failures (inl finished) = kept_finished g h v w d e cpu f paging disk failures finished
+kept_turn g h v w d e cpu Finished f paging disk failures (inr torn) = kept_same g h v w d e paging disk failures torn.journal
 kept_turn g h v w d e cpu (Waits page owner) f paging disk failures (eh, ew, ee, waits) = kept_same g h v w d e paging disk failures (ap (λ (q : GuestState). q.journal) eh)
 kept_turn g h v w d e cpu (Again why) f paging disk failures (waits, ee, risen) = kept_same g h v w d e paging disk failures (waits_same g h v cpu waits)
 kept_turn g h v w d e cpu Idle f paging disk failures (eh, ew, ee, none) = kept_same g h v w d e paging disk failures (ap (λ (q : GuestState). q.journal) eh)

@@ -1,7 +1,6 @@
 -- When the block of a tag has the tag's current bytes: where no page has the tag, where its page is clean, and where its page was written back.
 use Rattle.std.proofs.Common.{◌≡◌, ℕ, List, Bool, true, false, Some, None, sym, ap, ◌∙◌}
 use Rattle.cmm_types.specs.declared.page.Tag.{Tag}
-use Rattle.cmm_types.specs.declared.page.Tag.TheVariants.{File}
 use Rattle.cmm_io.specs.DiskView.{DiskView}
 use Rattle.cmm_flat.specs.State.{FlatState}
 use Rattle.cmm_flat.specs.Legal.{flat_of}
@@ -13,13 +12,13 @@ use Rattle.guest_cache.specs.CacheView.{CacheView, page_of, backing_of}
 use Rattle.guest_rules.specs.declared.parts.Parts.{Parts}
 use Rattle.guest_rules.specs.GuestState.{GuestState}
 use Rattle.guest_rules.specs.Syncs.{cleaned}
-use Rattle.guest_rules.specs.Fit.{FitAt, Fit, IsWriting, backed, backing, current_bytes, current_at, current}
+use Rattle.guest_rules.specs.Fit.{FitAt, Fit, backed, backing, current_bytes, current_at, current}
 use Rattle.guest_rules.proofs.Cases.TurnCases.{HasPage, GivenBack, IsRehinted, WrittenBack}
 use Rattle.guest_rules.proofs.Rows.Values.{may_used}
 use Rattle.guest_rules.proofs.Kept.RowChanges.{change-changed, only-changed}
 use Rattle.guest_rules.proofs.Fit.StepTold.{is_changed}
 use Rattle.guest_rules.proofs.Kept.SyncTables.{change-cleaned, only-cleaned}
-use Rattle.guest_rules.proofs.Ready.Ready.{below_view, can_be_used}
+use Rattle.guest_rules.proofs.Ready.Ready.{HasToWrite, below_view, can_be_used}
 use Rattle.guest_rules.proofs.Fit.FitBlock.{backing-written}
 
 -- the block of a tag has the tag's current bytes
@@ -56,15 +55,12 @@ synced_clean state g v w d e page tag found f has back may told unchanged clean 
     (ap (λ b. backed b (backing_of g.parts.cache tag)) (sym back.blocks))
 
 -- a page that was written back
-pub synced_written : (g : GuestState) (v w : StorageView) (d e : DiskView) (cpu index page : ℕ) (bytes : List ℕ) (after : Parts) → Fit g v d → (k : IsWriting g cpu index page)
+pub synced_written : (g : GuestState) (v w : StorageView) (d e : DiskView) (cpu page : ℕ) (tag : Tag) (bytes : List ℕ) (after : Parts) → Fit g v d → HasToWrite g cpu page tag
     → (v.values page).contents ≡ Bytes bytes
-    → WrittenBack page (File k.file index) g.parts.cache bytes v d w e → IsRehinted (cleaned g.parts page) page (v.values page) after (w.values page) → SyncedAt after w e (File k.file index)
-synced_written g v w d e cpu index page bytes after f k are written told =
-    synced_page after w e (File k.file index) page bytes found fresh (ap (λ (q : PageValue). q.contents) told.value ∙ are) (sym behind)
+    → WrittenBack page tag g.parts.cache bytes v d w e → IsRehinted (cleaned g.parts page) page (v.values page) after (w.values page) → SyncedAt after w e tag
+synced_written g v w d e cpu page tag bytes after f k are written told =
+    synced_page after w e tag page bytes found fresh (ap (λ (q : PageValue). q.contents) told.value ∙ are) (sym behind)
   where
-    tag : Tag
-    tag = File k.file index
-
     changed : Bool
     changed = (v.values page).changed
 
@@ -72,19 +68,19 @@ synced_written g v w d e cpu index page bytes after f k are written told =
     cache = ap (λ (q : Parts). q.cache) told.tables ∙ (only-changed (cleaned g.parts page) page changed).cache ∙ (only-cleaned g.parts page).cache
 
     found : page_of after.cache tag ≡ Some page
-    found = ap (λ (c : CacheView). page_of c tag) cache ∙ (f.pages.indexed page tag k.tagged).1
+    found = ap (λ (c : CacheView). page_of c tag) cache ∙ (f.pages.indexed page tag k.locked.tagged).1
 
     fresh : (info_at after.pages page).uptodate ≡ true
     fresh =
-        let clean = change-cleaned g.parts page k.below in
+        let clean = change-cleaned g.parts page k.locked.below in
         ap (λ (q : Parts). (info_at q.pages page).uptodate) told.tables
-        ∙ ap (λ (i : PageInfo). i.uptodate) (change-changed (cleaned g.parts page) page changed (rw clean.size k.below)).here
+        ∙ ap (λ (i : PageInfo). i.uptodate) (change-changed (cleaned g.parts page) page changed (rw clean.size k.locked.below)).here
         ∙ (is_changed (info_at (cleaned g.parts page).pages page) changed).uptodate
         ∙ ap (λ (i : PageInfo). i.uptodate) clean.here
-        ∙ k.uptodate
+        ∙ k.locked.uptodate
 
     behind : backing after.cache e tag ≡ bytes
     behind =
         ap (λ (c : CacheView). backing c e tag) cache
-        ∙ backing-written (flat_of g.plan g.journal) g v d e page k.file index written.block bytes f
-        (record { tagged = k.tagged; uptodate = k.uptodate; are = are; backs = written.backs; count = written.count; blocks = written.blocks })
+        ∙ backing-written (flat_of g.plan g.journal) g v d e page tag written.block bytes f
+        (record { tagged = k.locked.tagged; uptodate = k.locked.uptodate; are = are; backs = written.backs; count = written.count; blocks = written.blocks })

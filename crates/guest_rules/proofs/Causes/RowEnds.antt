@@ -13,6 +13,7 @@ use Rattle.cmm_storage.specs.declared.storage.Trap.TheVariants.{Discarded, Pagin
 use Rattle.cmm_types.specs.Bytes.{zero_page}
 use Rattle.cmm_storage.specs.Program.{done, put_page, bind}
 use Rattle.guest_pages.specs.PagesView.{info_at}
+use Rattle.guest_maps.specs.declared.slot.Pte.{Pte}
 use Rattle.guest_rules.specs.declared.parts.Parts.{Parts}
 use Rattle.guest_rules.specs.declared.outcome.Gone.{Gone}
 use Rattle.guest_rules.specs.declared.outcome.Filled.{Filled}
@@ -23,7 +24,7 @@ use Rattle.guest_rules.specs.declared.outcome.Placed.{Placed}
 use Rattle.guest_rules.specs.declared.outcome.Placed.TheVariants.{Done as PlaceDone, Gone as PlaceGone, Again as PlaceAgain}
 use Rattle.guest_rules.specs.declared.outcome.Synced.{Synced}
 use Rattle.guest_rules.specs.declared.outcome.Synced.TheVariants.{Clean, Locked, Gone as SyncGone, Waits as IsLocked, Again as SyncAgain}
-use Rattle.guest_rules.specs.Rows.{handled, handler, tell, with_change, rehint, make_stable, missed_by, touch_missed, read_page, read_stable, read_touched, write_page, write_stable, write_touched, load_page, load_touched, store_through, store_touched, resolve, resolve_stable, pin_page, pin_stable, fill, fill_with, fill_read, fill_from, fill_touched, backing_at, dirtied, mapped, pinned, filled}
+use Rattle.guest_rules.specs.Rows.{handled, handler, tell, with_change, rehint, make_stable, missed_by, touch_missed, read_page, read_stable, read_touched, write_page, write_stable, write_touched, load_page, load_touched, store_through, store_touched, resolve, resolve_stable, pin_page, pin_stable, clear_entry, clear_stable, fill, fill_with, fill_read, fill_from, fill_touched, backing_at, dirtied, mapped, unmapped, pinned, filled}
 use Rattle.guest_rules.specs.Syncs.{sync_page, sync_owned, sync_taken, sync_known, sync_stable, unlocked, cleaned, write_back, back_touched, back_fetched, back_written, stay_dirty}
 use Rattle.guest_rules.proofs.Causes.Ends.{Ends, ends_bind, after_take, after_touch}
 
@@ -79,7 +80,7 @@ handler_ends : (parts : Parts) (page : ℕ) (last : Option Why) (Q : Option Why 
 unfolding handler
 handler_ends parts page last Q h = λ was_done. h (handled parts page)
 
-stable_ends : (parts : Parts) (page : ℕ) (last : Option Why) (Q : Option Why → Parts × Result Unit Gone → Type 0) → ((after : Parts) (r : Result Unit Gone) → Q last (after, r))
+pub stable_ends : (parts : Parts) (page : ℕ) (last : Option Why) (Q : Option Why → Parts × Result Unit Gone → Type 0) → ((after : Parts) (r : Result Unit Gone) → Q last (after, r))
     → Ends (make_stable parts page) last Q
 unfolding make_stable
 stable_ends parts page last Q h true = h parts (Ok tt)
@@ -178,6 +179,17 @@ pin_ends parts page slot index pins (Err busy) = refl
 pin_ends parts page slot index pins (Ok u) =
     ends_bind (make_stable parts page) (λ went. pin_stable page slot index pins went.0 went.1) None PlacedNames
     (stable_ends parts page None (λ l went. Ends (pin_stable page slot index pins went.0 went.1) l PlacedNames) (λ after r. pin_gone page slot index pins after r))
+
+clear_gone : (slot index : ℕ) (pte : Pte) (parts : Parts) (r : Result Unit Gone) → Ends (clear_stable slot index pte parts r) None PlacedNames
+clear_gone slot index pte parts (Ok u) = told_ends (unmapped parts slot index pte) pte.page PlaceDone None PlacedNames (λ after. tt)
+clear_gone slot index pte parts (Err gone) = tt
+
+pub clear_ends : (parts : Parts) (slot index : ℕ) (pte : Pte) → Ends (clear_entry parts slot index pte) None PlacedNames
+unfolding clear_entry
+clear_ends parts slot index pte (Err busy) = refl
+clear_ends parts slot index pte (Ok u) =
+    ends_bind (make_stable parts pte.page) (λ went. clear_stable slot index pte went.0 went.1) None PlacedNames
+    (stable_ends parts pte.page None (λ l went. Ends (clear_stable slot index pte went.0 went.1) l PlacedNames) (λ after r. clear_gone slot index pte after r))
 
 -- ---- the filling of a page
 

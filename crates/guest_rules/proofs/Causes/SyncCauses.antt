@@ -2,7 +2,8 @@
 use Rattle.std.proofs.Common.{◌≡◌, List, ◌<◌, ◌≤◌, ◌+◌, ℕ, length, Bool, true, Some, None, if◌then◌else◌, sym, ap, subst, inl, ◌∙◌, arith}
 use Rattle.std.proofs.lemmas.Bool.{lt-ltb}
 use Rattle.cmm_types.specs.declared.page.Tag.TheVariants.{File}
-use Rattle.cmm_types.specs.declared.command.Op.TheVariants.{Sync}
+use Rattle.cmm_types.specs.declared.command.Op.{Op}
+use Rattle.cmm_types.specs.declared.command.Op.TheVariants.{Sync, Unmap}
 use Rattle.cmm_types.specs.declared.command.Reply.TheVariants.{Done, Fail}
 use Rattle.cmm_types.specs.declared.command.FlatRefusal.TheVariants.{OutOfRange}
 use Rattle.cmm_types.specs.declared.turn.Turn.{Turn}
@@ -18,6 +19,7 @@ use Rattle.guest_rules.specs.GuestState.{GuestState, processor_at, with_parts, w
 use Rattle.guest_rules.specs.Rows.{handled, with_change}
 use Rattle.guest_rules.specs.Syncs.{locked, cleaned}
 use Rattle.guest_rules.specs.Turns.{file_pages}
+use Rattle.guest_rules.specs.Stuck.{NeedsFreePage}
 use Rattle.guest_rules.specs.Fit.{Fit}
 use Rattle.guest_rules.specs.Cause.{AnswerCause, IsAccepted, IsLastSynced, SyncMoves, index_of}
 use Rattle.guest_rules.proofs.Cases.TurnCases.{SyncCase, not_there, sync_waited, sync_missed, sync_gone, was_clean, was_locked, write_missed, was_written_back, write_failed, Has, HasPage, Syncs, WritesBack, WrittenBack, IsRehinted}
@@ -30,6 +32,10 @@ use Rattle.guest_rules.proofs.Fit.Replies.{refused-same}
 use Rattle.guest_rules.proofs.Causes.SyncPhases.{looks-index, looks-looking, looks_unlocked}
 use Rattle.guest_rules.proofs.Cases.Passed.{HasPassed, goes_on, is_done, has_passed}
 use Rattle.guest_rules.proofs.Kept.Tables.{page_of-handled}
+use Rattle.guest_rules.proofs.Ready.Ready.{writing-has}
+use Rattle.guest_rules.proofs.Bound.Ranks.{wants_not_sync}
+use Rattle.guest_rules.proofs.Causes.RoomMoves.{syncs_on}
+use Rattle.guest_rules.proofs.Causes.TearMoves.{moves_on}
 use Rattle.guest_rules.proofs.Causes.PagesSynced.{SyncedAt, synced_none, synced_clean, synced_written}
 use Rattle.guest_rules.proofs.Causes.CauseForms.{moved_phase, finished, fill_cause, phase_after, sync_moves}
 
@@ -50,7 +56,7 @@ passes_page g w e cpu file index after h k more eh =
     (ap (λ n. n + 1) (sym k.here), more, subst (λ q. SyncedAt q w e (File file (index_of (processor_at g cpu).phase))) (sym parts) synced)
 
 -- the last page of a file
-last_index : (index pages : ℕ) → index < pages → pages ≤ index + 1 → index + 1 ≡ pages
+pub last_index : (index pages : ℕ) → index < pages → pages ≤ index + 1 → index + 1 ≡ pages
 last_index index pages within last = omega (arith, within, last)
 
 last_page : (g : GuestState) (w : StorageView) (e : DiskView) (cpu file index : ℕ) (after : Parts) → PassesPage g cpu file index after w e → file_pages g.plan.files file ≤ index + 1
@@ -67,10 +73,19 @@ sync_accepted g v d cpu file index f has within =
     let below = file-there g.plan.files file index within in
     refused-same g v d cpu (Sync file) f has ∙ ap (λ b. if b then None else Some OutOfRange) (lt-ltb file (length g.plan.files) below)
 
+-- a sync is no unmap
+no_unmap : (file number : ℕ) → Sync file ≡ Unmap number → ⊥
+no_unmap file number is = cc is
+
 passed_causes : (g : GuestState) (v w : StorageView) (d e : DiskView) (cpu file index : ℕ) (after : Parts) (h : GuestState) (t : Turn) → Fit g v d → PassesPage g cpu file index after w e
     → HasPassed g cpu file index after h t → AnswerCause g v d cpu t h w e
 passed_causes g v w d e cpu file index after h t f k (goes_on more eh et) =
-    rw et (moved_phase g cpu (Sync file) after (AtSync (index + 1)) h k.has eh, passes_page g w e cpu file index after h k more eh)
+    rw et (
+      moved_phase g cpu (Sync file) after (AtSync (index + 1)) h k.has eh,
+      passes_page g w e cpu file index after h k more eh,
+      syncs_on g h v w d e cpu file after (AtSync (index + 1)) f k.has eh tt,
+      moves_on g h cpu (Sync file) after (AtSync (index + 1)) k.has (no_unmap file) eh tt,
+    )
 passed_causes g v w d e cpu file index after h t f k (is_done last eh et) =
     rw et (finished g v w d e cpu (Sync file) after Done h k.has eh (sync_accepted g v d cpu file index f k.has k.within) (last_page g w e cpu file index after k last))
 
@@ -119,8 +134,16 @@ written_passes g v w d e cpu file index page bytes after f k are written told =
       within = subst (λ n. index < file_pages g.plan.files n) same its.syncing.within;
       here = ap index_of k.phase;
       synced = subst (λ n. SyncedAt after w e (File n index)) same
-          (synced_written g v w d e cpu index page bytes after f its are (subst (λ n. WrittenBack page (File n index) g.parts.cache bytes v d w e) (sym same) written) told);
+          (synced_written g v w d e cpu page (File its.file index) bytes after f (writing-has g cpu index page its) are
+          (subst (λ n. WrittenBack page (File n index) g.parts.cache bytes v d w e) (sym same) written) told);
     }
+
+-- a sync needs no page of its own
+sync_needs_none : (g : GuestState) (cpu file : ℕ) (op : Op) → Has g cpu (Sync file) → NeedsFreePage g cpu op → ⊥
+sync_needs_none g cpu file op has needs =
+    let both : Some op ≡ Some (Sync file) = sym needs.command ∙ has.command in
+    let same : op ≡ Sync file = cc in
+    wants_not_sync g cpu op needs.tag file needs.wants same
 
 pub sync_causes : (g : GuestState) (v w : StorageView) (d e : DiskView) (cpu file index : ℕ) (h : GuestState) (t : Turn) → Fit g v d → SyncCase g cpu file index v d h t w e
     → AnswerCause g v d cpu t h w e
@@ -131,7 +154,12 @@ sync_causes g v w d e cpu file index h t f (sync_waited page owner k locked eh e
       eh,
       ew,
       ee,
-      record { locked = locked; command = (Sync file, k.has.command); other = λ same. looks_unlocked g cpu index page k.looks (f.locks.locked cpu page (locked ∙ ap Some same)) },
+      record {
+        locked = locked;
+        command = (Sync file, k.has.command);
+        other = λ same. looks_unlocked g cpu index page k.looks (f.locks.locked cpu page (locked ∙ ap Some same));
+        room = λ op needs. absurd (sync_needs_none g cpu file op k.has needs);
+      },
     )
 sync_causes g v w d e cpu file index h t f (sync_missed why k eh et may misses ee) = rw et (record { tables = inl eh; command = (Sync file, k.has.command) }, ee, misses.risen)
 sync_causes g v w d e cpu file index h t f (sync_gone page found k has back may lost unused passes) =
@@ -143,7 +171,12 @@ sync_causes g v w d e cpu file index h t f (was_clean page found k has back may 
     (look_passes g w e cpu file index g.parts k (synced_clean (flat_of g.plan g.journal) g v w d e page (File file index) found f has back may told unchanged clean))
     (has_passed g cpu file index g.parts h t passes)
 sync_causes g v w d e cpu file index h t f (was_locked page found k has back may there dirty value eh et) =
-    rw et (moved_phase g cpu (Sync file) _ _ h k.has eh, locks_page g w e cpu file index page found.changed h k has dirty eh)
+    rw et (
+      moved_phase g cpu (Sync file) _ _ h k.has eh,
+      locks_page g w e cpu file index page found.changed h k has dirty eh,
+      syncs_on g h v w d e cpu file _ (SyncWrite index page) f k.has eh tt,
+      moves_on g h cpu (Sync file) _ (SyncWrite index page) k.has (no_unmap file) eh tt,
+    )
 sync_causes g v w d e cpu file index h t f (write_missed page why k eh et may misses ee) = rw et (record { tables = inl eh; command = (Sync file, k.has.command) }, ee, misses.risen)
 sync_causes g v w d e cpu file index h t f (was_written_back page bytes after k are written told passes) =
     passed_causes g v w d e cpu file index after h t f (written_passes g v w d e cpu file index page bytes after f k are written told) (has_passed g cpu file index after h t passes)

@@ -18,11 +18,12 @@ use Rattle.guest_pages.specs.PagesView.{info_at}
 use Rattle.guest_cache.specs.CacheView.{page_of}
 use Rattle.guest_maps.specs.declared.slot.Pte.{Pte}
 use Rattle.guest_maps.specs.declared.slot.Shown.{Shown}
-use Rattle.guest_maps.specs.declared.slot.Shown.TheVariants.{File as OfFile}
-use Rattle.guest_maps.specs.MapsView.{find_slot, free_slot, entry_at, tag_at}
+use Rattle.guest_maps.specs.declared.slot.Shown.TheVariants.{File as OfFile, Anon as OfItsOwn}
+use Rattle.guest_maps.specs.declared.slot.Slot.{Slot}
+use Rattle.guest_maps.specs.MapsView.{slot_at, find_slot, free_slot, entry_at, tag_at, freed_slot}
 use Rattle.guest_rules.specs.declared.parts.Parts.{Parts}
 use Rattle.guest_rules.specs.declared.processor.Phase.{Phase}
-use Rattle.guest_rules.specs.declared.processor.Phase.TheVariants.{Start, Fill, Sync as AtSync, SyncWrite}
+use Rattle.guest_rules.specs.declared.processor.Phase.TheVariants.{Start, Fill, Room as AtRoom, Sync as AtSync, SyncWrite, Teardown}
 use Rattle.guest_rules.specs.declared.outcome.Filled.{Filled}
 use Rattle.guest_rules.specs.declared.outcome.Filled.TheVariants.{Done as FilledDone, Again as FilledAgain, Fail as FilledFail}
 use Rattle.guest_rules.specs.declared.outcome.Missed.{Missed}
@@ -31,13 +32,17 @@ use Rattle.guest_rules.specs.declared.outcome.Placed.{Placed}
 use Rattle.guest_rules.specs.declared.outcome.Placed.TheVariants.{Done as PlaceDone, Gone as PlaceGone, Again as PlaceAgain}
 use Rattle.guest_rules.specs.declared.outcome.Synced.{Synced}
 use Rattle.guest_rules.specs.declared.outcome.Synced.TheVariants.{Clean, Locked, Gone as SyncGone, Waits as IsLocked, Again as SyncAgain}
-use Rattle.guest_rules.specs.GuestState.{GuestState, processor_at, with_parts, with_phase, entered}
-use Rattle.guest_rules.specs.Rows.{read_page, write_page, load_page, store_through, resolve, fill, pin_page}
+use Rattle.guest_rules.specs.declared.outcome.Room.{Room}
+use Rattle.guest_rules.specs.declared.outcome.Room.TheVariants.{Freed, Locked as RoomLocked, Waits as RoomWaits, NoPage, Again as RoomAgain}
+use Rattle.guest_rules.specs.GuestState.{GuestState, processor_at, with_parts, with_phase, entered, next_command}
+use Rattle.guest_rules.specs.Rows.{read_page, write_page, load_page, store_through, resolve, fill, pin_page, clear_entry}
 use Rattle.guest_rules.specs.Syncs.{sync_page, write_back}
-use Rattle.guest_rules.specs.Turns.{file_pages, passed, refusal_in, begin_turn, missed_next, read_next, done_next, resolve_next, resolve_in, pin_next, pin_in, use_turn, hit_turn, start_free, start_locked, start_found, start_tagged, start_at, start_entry, start_mapped, start_placed, map_turn, sync_next, sync_found, sync_turn, written_next, write_back_turn, start_accepted, start_refused, start_turn, fill_next, fill_turn, turn_in, turn_on, turn}
+use Rattle.guest_rules.specs.MakeRoom.{make_room}
+use Rattle.guest_rules.specs.Turns.{file_pages, passed, refusal_in, begin_turn, missed_next, read_next, done_next, resolve_next, resolve_in, pin_next, pin_in, use_turn, hit_turn, room_next, room_turn, start_free, start_locked, start_found, start_tagged, start_at, start_entry, start_mapped, start_placed, map_turn, unmap_turn, torn_past, torn_next, teardown_entry, teardown_shown, teardown_in, teardown_turn, sync_next, sync_found, sync_turn, written_next, write_back_turn, start_accepted, start_refused, start_turn, fill_next, fill_turn, page_out_turn, turn_in, turn_on, turn}
 use Rattle.guest_rules.specs.Again.{WhyAgain}
 use Rattle.guest_rules.proofs.Causes.Ends.{Ends, ends_bind, ends_map, missed_in}
-use Rattle.guest_rules.proofs.Causes.RowEnds.{MissNames, PlacedNames, FilledNames, SyncedNames, read_ends, write_ends, load_ends, store_ends, resolve_ends, pin_ends, fill_ends, sync_ends, write_back_ends}
+use Rattle.guest_rules.proofs.Causes.RowEnds.{MissNames, PlacedNames, FilledNames, SyncedNames, read_ends, write_ends, load_ends, store_ends, resolve_ends, pin_ends, clear_ends, fill_ends, sync_ends, write_back_ends}
+use Rattle.guest_rules.proofs.Causes.RoomEnds.{RoomNames, make_room_ends}
 
 -- an answer `Again` is that of the call that missed last
 abbrev pub Names : Option Why → Turn → Type 0
@@ -96,6 +101,13 @@ fill_follows g cpu op last parts FilledDone names = tt
 fill_follows g cpu op last parts (FilledAgain why) names = names
 fill_follows g cpu op last parts (FilledFail cause) names = tt
 
+room_follows : (g : GuestState) (cpu : ℕ) (op : Op) (last : Option Why) (parts : Parts) (r : Room) → RoomNames last (parts, r) → Ends (room_next g cpu op parts r) last TurnNames
+room_follows g cpu op last parts Freed names = tt
+room_follows g cpu op last parts (RoomLocked page) names = tt
+room_follows g cpu op last parts (RoomWaits page owner) names = tt
+room_follows g cpu op last parts (NoPage pinned unslotted) names = tt
+room_follows g cpu op last parts (RoomAgain why) names = names
+
 passed_names : (g : GuestState) (cpu : ℕ) (op : Op) (pages index : ℕ) (last : Option Why) → TurnNames last (passed g cpu op pages index)
 passed_names g cpu op pages index last = of (nat_lt (index + 1) pages)
   where
@@ -116,6 +128,20 @@ sync_follows g cpu op pages index page last parts SyncGone names = passed_names 
 sync_follows g cpu op pages index page last parts Locked names = tt
 sync_follows g cpu op pages index page last parts (IsLocked owner) names = tt
 sync_follows g cpu op pages index page last parts (SyncAgain why) names = names
+
+torn_names : (g : GuestState) (cpu slot index count : ℕ) (last : Option Why) → TurnNames last (torn_past g cpu slot index count)
+torn_names g cpu slot index count last = of (nat_lt (index + 1) count)
+  where
+    of : (more : Bool)
+        → TurnNames last (if more then (with_phase g cpu (Teardown slot (index + 1)), Moved) else (next_command (with_parts g (record g.parts { maps = freed_slot g.parts.maps slot })) cpu, Finished))
+    of true = tt
+    of false = tt
+
+torn_follows : (g : GuestState) (cpu slot index count : ℕ) (last : Option Why) (parts : Parts) (r : Placed) → PlacedNames last (parts, r)
+    → Ends (torn_next g cpu slot index count parts r) last TurnNames
+torn_follows g cpu slot index count last parts PlaceDone names = torn_names (with_parts g parts) cpu slot index count last
+torn_follows g cpu slot index count last parts PlaceGone names = torn_names (with_parts g parts) cpu slot index count last
+torn_follows g cpu slot index count last parts (PlaceAgain why) names = names
 
 -- ---- the turns
 
@@ -167,8 +193,12 @@ unfolding begin_turn
 begin_ends g cpu tag page (Err busy) = refl
 begin_ends g cpu tag page (Ok u) = λ was_done. tt
 
+room_ends : (g : GuestState) (cpu : ℕ) (op : Op) → Ends (room_turn g cpu op) None TurnNames
+unfolding room_turn
+room_ends g cpu op = row_ends (make_room g.parts cpu) (room_next g cpu op) RoomNames (make_room_ends g.parts cpu) (room_follows g cpu op)
+
 free_ends : (g : GuestState) (cpu : ℕ) (op : Op) (tag : Tag) (free : List ℕ) → Ends (start_free g cpu op tag free) None TurnNames
-free_ends g cpu op tag [] = tt
+free_ends g cpu op tag [] = room_ends g cpu op
 free_ends g cpu op tag (page ∷ rest) = begin_ends g cpu tag page
 
 locked_ends : (g : GuestState) (cpu : ℕ) (op : Op) (page : ℕ) (owner : Option ℕ) → Ends (start_locked g cpu op page owner) None TurnNames
@@ -205,6 +235,27 @@ placed_ends g cpu op index (Some slot) = at_ends g cpu op (tag_at g.parts.maps s
 map_ends : (g : GuestState) (cpu : ℕ) (op : Op) (number : ℕ) (shown : Shown) (count : ℕ) (free : Option ℕ) → Ends (map_turn g cpu op number shown count free) None TurnNames
 map_ends g cpu op number shown count None = tt
 map_ends g cpu op number shown count (Some slot) = tt
+
+unmap_ends : (g : GuestState) (cpu : ℕ) (op : Op) (found : Option ℕ) → Ends (unmap_turn g cpu op found) None TurnNames
+unmap_ends g cpu op None = tt
+unmap_ends g cpu op (Some slot) = tt
+
+teardown_entry_ends : (g : GuestState) (cpu slot index count : ℕ) (entry : Option Pte) → Ends (teardown_entry g cpu slot index count entry) None TurnNames
+teardown_entry_ends g cpu slot index count None = torn_names g cpu slot index count None
+teardown_entry_ends g cpu slot index count (Some pte) =
+    row_ends (clear_entry g.parts slot index pte) (torn_next g cpu slot index count) PlacedNames (clear_ends g.parts slot index pte) (torn_follows g cpu slot index count)
+
+teardown_shown_ends : (g : GuestState) (cpu slot index count : ℕ) (shown : Shown) → Ends (teardown_shown g cpu slot index count shown) None TurnNames
+teardown_shown_ends g cpu slot index count (OfFile file first writable) = teardown_entry_ends g cpu slot index count (entry_at g.parts.maps slot index)
+teardown_shown_ends g cpu slot index count OfItsOwn = tt
+
+teardown_in_ends : (g : GuestState) (cpu slot index : ℕ) (mapping : Option Slot) → Ends (teardown_in g cpu slot index mapping) None TurnNames
+teardown_in_ends g cpu slot index None = tt
+teardown_in_ends g cpu slot index (Some mapping) = teardown_shown_ends g cpu slot index mapping.count mapping.shown
+
+teardown_ends : (g : GuestState) (cpu slot index : ℕ) → Ends (teardown_turn g cpu slot index) None TurnNames
+unfolding teardown_turn
+teardown_ends g cpu slot index = teardown_in_ends g cpu slot index (slot_at g.parts.maps slot)
 
 look_ends : (g : GuestState) (cpu file index : ℕ) (found : Option ℕ) → Ends (sync_found g cpu (Sync file) (file_pages g.plan.files file) index found) None TurnNames
 look_ends g cpu file index None = passed_names g cpu (Sync file) (file_pages g.plan.files file) index None
@@ -247,7 +298,7 @@ accepted_ends g cpu (Sync file) = sync_turn_ends g cpu (Sync file) 0
 accepted_ends g cpu (MapFile number file first count writable) =
     map_ends g cpu (MapFile number file first count writable) number (OfFile file first writable) count (free_slot g.parts.maps)
 accepted_ends g cpu (MapAnon number count) = tt
-accepted_ends g cpu (Unmap number) = tt
+accepted_ends g cpu (Unmap number) = unmap_ends g cpu (Unmap number) (find_slot g.parts.maps (process_of g.plan cpu) number)
 accepted_ends g cpu (Load number off len) = mapped_ends g cpu (Load number off len) false off (find_slot g.parts.maps (process_of g.plan cpu) number)
 accepted_ends g cpu (Store number off bytes) = mapped_ends g cpu (Store number off bytes) true off (find_slot g.parts.maps (process_of g.plan cpu) number)
 accepted_ends g cpu (Pin number index) = placed_ends g cpu (Pin number index) index (find_slot g.parts.maps (process_of g.plan cpu) number)
@@ -258,11 +309,13 @@ refused_ends g cpu op (Some refusal) = tt
 refused_ends g cpu op None = accepted_ends g cpu op
 
 phase_ends : (g : GuestState) (cpu : ℕ) (op : Op) (phase : Phase) → Ends (turn_in g cpu op phase) None TurnNames
-unfolding start_turn fill_turn
+unfolding start_turn fill_turn page_out_turn
 phase_ends g cpu op Start = refused_ends g cpu op (refusal_in g (process_of g.plan cpu) op)
 phase_ends g cpu op (Fill page) = row_ends (fill g.parts page) (fill_next g cpu op) FilledNames (fill_ends g.parts page) (fill_follows g cpu op)
+phase_ends g cpu op (AtRoom page) = row_ends (write_back g.parts page) (fill_next g cpu op) FilledNames (write_back_ends g.parts page) (fill_follows g cpu op)
 phase_ends g cpu op (AtSync index) = sync_turn_ends g cpu op index
 phase_ends g cpu op (SyncWrite index page) = back_turn_ends g cpu op index page
+phase_ends g cpu op (Teardown slot index) = teardown_ends g cpu slot index
 
 command_ends : (g : GuestState) (cpu : ℕ) (op : Option Op) → Ends (turn_on g cpu op) None TurnNames
 command_ends g cpu None = tt

@@ -24,10 +24,11 @@ use Rattle.guest_rules.proofs.Kept.Changes.{InfoChange, IsTag-same, cases_tag, c
 use Rattle.guest_rules.proofs.Kept.RowChanges.{OnlyPages, changed_info, change-changed, only-changed, maps-changed}
 use Rattle.guest_rules.proofs.Kept.PageFits.{PageFits, tagged-below}
 use Rattle.guest_rules.proofs.Kept.PagesKept.{PagesFit-kept}
-use Rattle.guest_rules.proofs.Kept.LocksKept.{LocksFit-kept}
+use Rattle.guest_rules.proofs.Kept.LocksKept.{blocks-kept, LocksFit-kept}
 use Rattle.guest_rules.proofs.Kept.SlotsKept.{SlotsFit-kept}
 use Rattle.guest_rules.proofs.Kept.EntriesKept.{EntriesFit-info}
 use Rattle.guest_rules.proofs.Kept.PinsKept.{PinsStand-info, standing}
+use Rattle.guest_rules.proofs.Kept.TeardownsKept.{keeps_torn-same}
 use Rattle.guest_rules.proofs.Kept.Currents.{SameCurrent, current-other}
 use Rattle.guest_rules.proofs.Fit.FitMay.{infos-pages}
 use Rattle.guest_rules.proofs.Fit.FitChanged.{TableStep, step-same, FitAt-step}
@@ -83,7 +84,8 @@ FitAt-bytes state g v d w e file first off bytes page tag found all usage change
     (SlotsFit-kept state later g.parts after f.slots refl (ap (λ m. m.slots) maps) (ap (λ m. length m.entries) maps) (ap (λ m. m.pinned) maps) (ap (λ m. m.pages) maps) change.size
     (ap (λ (c : CacheView). c.files) only.cache))
     (EntriesFit-info g.parts after page new f.entries change maps (λ t t_is u. (is.tag ∙ t_is, is.uptodate ∙ u)) is.writers)
-    (LocksFit-kept g h page new f.locks refl refl change is.tag is.owner is.uptodate (λ u. let bad : true ≡ false = sym k.its.uptodate ∙ sym is.uptodate ∙ u in cc))
+    (LocksFit-kept g h page new f.locks refl refl change is.tag is.owner is.uptodate (λ u. let bad : true ≡ false = sym k.its.uptodate ∙ sym is.uptodate ∙ u in cc)
+    (blocks-kept g.parts.cache h.parts.cache only.cache))
     (FlatFit-bytes state g v d w e file first off bytes page tag found all after f k only.cache (ap (λ (i : PageInfo). i.uptodate) change.here ∙ is.uptodate ∙ k.its.uptodate)
     (step-same state g v d h w e 0 page (processor_at g 0).phase new f step) (ap (λ (x : PageValue). x.contents) value))
     (record { handled = omega (arith, only.faults); counted = rw value (omega (arith, may-faults (v.values page) found k.its.may)) })
@@ -127,6 +129,7 @@ FitAt-bytes state g v d w e file first off bytes page tag found all usage change
       index = ap (λ (c : CacheView). length c.index) only.cache;
       info_change = change;
       phase_change = change-nothing g.processors 0 (processor_at g 0).phase refl;
+      torn = keeps_torn-same g.parts.maps after.maps maps;
       pins = PinsStand-info g.parts after page new (standing g.parts f.pins) change only.cache (record { slots = ap (λ m. m.slots) maps; pinned = ap (λ m. m.pinned) maps }) is.tag is.pins
           (λ u. is.uptodate ∙ u);
       fits = fits;

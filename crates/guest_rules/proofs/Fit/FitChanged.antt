@@ -1,38 +1,52 @@
 -- Fit of the whole guest, from fit of its parts, where one page changed.
-use Rattle.std.proofs.Common.{◌≡◌, ◌≢◌, ◌<◌, ◌≤◌, ◌+◌, ℕ, length, refl, ap, sym, ◌∙◌, inl, inr, arith}
+use Rattle.std.proofs.Common.{◌≡◌, ◌≢◌, ◌<◌, ◌≤◌, ◌+◌, ℕ, length, ap, sym, ◌∙◌, inl, inr, subst, arith}
+use Rattle.std.specs.List.{sum_by}
 use Rattle.std.proofs.lemmas.Bool.{cases_eq}
 use Rattle.cmm_io.specs.DiskView.{DiskView}
 use Rattle.cmm_flat.specs.State.{FlatState}
+use Rattle.cmm_flat.specs.Legal.{start_of, progress_of, walk_of}
 use Rattle.essa_state.specs.PageValue.{MayBecome}
 use Rattle.cmm_storage.specs.StorageView.{StorageView}
 use Rattle.guest_pages.specs.declared.info.PageInfo.{PageInfo}
 use Rattle.guest_pages.specs.PagesView.{info_at}
 use Rattle.guest_rules.specs.declared.processor.Phase.{Phase}
-use Rattle.guest_rules.specs.declared.processor.Processor.{Processor}
 use Rattle.guest_rules.specs.GuestState.{GuestState, processor_at}
-use Rattle.guest_rules.specs.Fit.{PagesFit, SlotsFit, EntriesFit, FlatFit, LocksFit, JournalFit, FaultsFit, FitAt, one_if_lost}
+use Rattle.guest_rules.specs.Fit.{PagesFit, SlotsFit, EntriesFit, FlatFit, LocksFit, JournalFit, FaultsFit, FitAt, one_if_lost, entries_of, commands_of}
 use Rattle.guest_rules.proofs.Cases.TurnCases.{GivenBack}
 use Rattle.guest_rules.proofs.Rows.ValueLaws.{may-faults}
 use Rattle.guest_rules.proofs.Kept.Faults.{sum_below-more}
-use Rattle.guest_rules.proofs.Kept.Changes.{InfoChange, PhaseChange}
+use Rattle.guest_rules.proofs.Kept.Changes.{InfoChange, PhaseChange, same-answered}
 use Rattle.guest_rules.proofs.Kept.PageFits.{PageFits, EachPageFits, PageFits-may, PageFits-same, EachPageFits-from, HintsFit-from, ContentsFit-from}
 use Rattle.guest_rules.proofs.Kept.PinsKept.{PinsStand, PinsFit-from}
+use Rattle.guest_rules.proofs.Kept.TeardownsKept.{KeepsTorn, keeps_tearing-phase, TeardownsFit-kept}
 use Rattle.guest_rules.proofs.Kept.Currents.{SameCurrent}
 use Rattle.guest_rules.proofs.Fit.FitMay.{infos-pages}
 
--- only a processor's phase changed
-pub JournalFit-phase : (g h : GuestState) (cpu : ℕ) (phase : Phase) → JournalFit g → h.plan ≡ g.plan → h.journal ≡ g.journal → PhaseChange g.processors h.processors cpu phase → JournalFit h
-JournalFit-phase g h cpu phase f plan journal change = record {
+-- the same journal, of which each processor has as many entries
+pub JournalFit-kept : (g h : GuestState) → JournalFit g → h.plan ≡ g.plan → h.journal ≡ g.journal → length h.processors ≡ length g.processors
+    → ((q : ℕ) → entries_of (processor_at h q) ≡ entries_of (processor_at g q)) → sum_by entries_of h.processors ≡ sum_by entries_of g.processors → JournalFit h
+JournalFit-kept g h f plan journal size same sums = record {
   legal = rw (plan, journal) f.legal;
-  places = λ q below. rw (plan, journal, places q) (f.places q (rw change.size at below));
-  within = λ q below. rw (plan, places q) (f.within q (rw change.size at below));
-  counted = rw (journal, change.places) f.counted;
+  places = λ q below.
+      let was : (progress_of (walk_of h.plan (start_of h.plan) h.journal) q).next ≡ entries_of (processor_at g q) = rw (plan, journal) (f.places q (rw size at below)) in
+      was ∙ sym (same q);
+  within = λ q below.
+      let was : entries_of (processor_at g q) ≤ commands_of h.plan q = rw plan (f.within q (rw size at below)) in
+      subst (λ n. n ≤ commands_of h.plan q) (sym (same q)) was;
+  counted = ap length journal ∙ f.counted ∙ sym sums;
 }
+
+-- only a processor's phase changed, and not what it tears down
+pub JournalFit-phase : (g h : GuestState) (cpu : ℕ) (phase : Phase) → JournalFit g → h.plan ≡ g.plan → h.journal ≡ g.journal → PhaseChange g.processors h.processors cpu phase → JournalFit h
+JournalFit-phase g h cpu phase f plan journal change = JournalFit-kept g h f plan journal change.size same change.entries
   where
-    places : (q : ℕ) → (processor_at h q).place ≡ (processor_at g q).place
-    places q = elim (cases_eq q cpu) [
-      | inl z ↦ rw (z, change.here) refl
-      | inr n ↦ ap (λ (p : Processor). p.place) (change.others q n)
+    same : (q : ℕ) → entries_of (processor_at h q) ≡ entries_of (processor_at g q)
+    same q = elim (cases_eq q cpu) [
+      | inl z ↦
+          ap (λ x. entries_of (processor_at h x)) z ∙ ap entries_of change.here
+          ∙ ap (λ n. (processor_at g cpu).place + n) (same-answered phase (processor_at g cpu).phase change.teardown)
+          ∙ ap (λ x. entries_of (processor_at g x)) (sym z)
+      | inr n ↦ ap entries_of (change.others q n)
     ]
 
 -- what one step of the tables leaves and changes: one page's info and value, one processor's phase
@@ -47,6 +61,7 @@ pub record TableStep (g : GuestState) (v : StorageView) (d : DiskView) (h : Gues
   pub index : length h.parts.cache.index ≡ length g.parts.cache.index
   pub info_change : InfoChange g.parts.pages h.parts.pages page info
   pub phase_change : PhaseChange g.processors h.processors cpu phase
+  pub torn : KeepsTorn g.parts.maps h.parts.maps
   pub pins : PinsStand h.parts
   pub fits : PageFits g.parts.cache d info (w.values page)
 
@@ -97,6 +112,7 @@ FitAt-step state later g v d h w e cpu page more phase info f step pages slots e
   entries = entries;
   pins = PinsFit-from h.parts w e step.pins fits;
   locks = locks;
+  teardowns = TeardownsFit-kept state g h f.slots f.teardowns (keeps_tearing-phase g h cpu phase step.plan step.phase_change) step.torn;
   hints = HintsFit-from h.parts w e step.back.held fits;
   contents = ContentsFit-from h.parts w e (step.back.keeps.tells ∙ f.contents.tells) f.contents.told.0 (step.back.blocks ∙ f.contents.told.1)
       (rw (step.back.count, step.back.blocks) f.contents.blocks) fits;

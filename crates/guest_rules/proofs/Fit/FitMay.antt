@@ -37,6 +37,7 @@ FitAt-may state g v d w e f may = record {
   entries = f.entries;
   pins = f.pins;
   locks = f.locks;
+  teardowns = f.teardowns;
   hints = HintsFit-from g.parts w e may.held fits;
   contents = ContentsFit-from g.parts w e (may.tells ∙ f.contents.tells) f.contents.told.0 (may.blocks ∙ f.contents.told.1) (rw (may.count, may.blocks) f.contents.blocks) fits;
   flat = record { lengths = f.flat.lengths; pages = λ file index is. f.flat.pages file index is ∙ sym (same (File file index) is) };

@@ -1,5 +1,5 @@
 -- Fit where a processor that has no page locked goes on: to another phase, or past a page of a sync.
-use Rattle.std.proofs.Common.{◌≡◌, ◌<◌, ◌+◌, ℕ, nat_lt, if◌then◌else◌, Some, None, length, refl, ap, ◌∙◌, subst, length-set, get_or-set_same, get_or-set_other, set-set}
+use Rattle.std.proofs.Common.{◌≡◌, ◌<◌, ◌+◌, ℕ, nat_lt, if◌then◌else◌, Some, None, length, set, refl, ap, sym, ◌∙◌, subst, length-set, get_or-set_same, set-set}
 use Rattle.std.proofs.lemmas.Bool.{lt-ltb}
 use Rattle.cmm_types.specs.declared.command.Op.{Op}
 use Rattle.cmm_types.specs.declared.command.Op.TheVariants.{Sync}
@@ -20,8 +20,10 @@ use Rattle.guest_rules.specs.GuestState.{GuestState, first_processor, processor_
 use Rattle.guest_rules.specs.Turns.{file_pages}
 use Rattle.guest_rules.specs.Fit.{IsSyncing, HasLocked, FitAt, Fit}
 use Rattle.guest_rules.proofs.Cases.TurnCases.{Has}
-use Rattle.guest_rules.proofs.Kept.Changes.{change-with_phase}
+use Rattle.guest_rules.proofs.Kept.Changes.{PhaseChange, teardown_of, change-with_phase}
 use Rattle.guest_rules.proofs.Kept.LocksKept.{LocksNone, PhaseFits, LocksFit-passed}
+use Rattle.guest_rules.proofs.Kept.TeardownsKept.{sync-tears_nothing, keeps_tearing-phase, keeps_torn-same, TeardownsFit-kept}
+use Rattle.guest_rules.proofs.Fit.FitOthers.{FitAt-others}
 use Rattle.guest_rules.proofs.Fit.FitChanged.{JournalFit-phase}
 use Rattle.guest_rules.proofs.Fit.Replies.{Fit-stepped, refused-same}
 use Rattle.guest_rules.proofs.Cases.Passed.{HasPassed, goes_on, is_done}
@@ -42,40 +44,24 @@ pub start-phase : (g : GuestState) (cpu : ℕ) → cpu < length g.processors →
 unfolding with_phase
 start-phase g cpu below = ap (λ (p : Processor). p.phase) (get_or-set_same g.processors cpu (record { place = (processor_at g cpu).place; phase = Start }) first_processor below)
 
--- a processor that has no page locked is in another phase, in which it has none
+-- a processor that has no page locked is in another phase, in which it has none, and tears down what it did
 pub FitAt-phase : (state : FlatState) (g : GuestState) (v : StorageView) (d : DiskView) (cpu : ℕ) (phase : Phase) → FitAt state g v d → cpu < length g.processors
-    → ((i : ℕ) → HasLocked g cpu i → ⊥) → LocksNone phase
+    → ((i : ℕ) → HasLocked g cpu i → ⊥) → LocksNone phase → teardown_of phase ≡ teardown_of (processor_at g cpu).phase
     → PhaseFits (with_phase g cpu phase) cpu phase → FitAt state (with_phase g cpu phase) v d
 unfolding with_phase
-FitAt-phase state g v d cpu phase f below own none now = record {
-  sizes = record {
-    range = f.sizes.range;
-    built = f.sizes.built;
-    infos = f.sizes.infos;
-    pages = f.sizes.pages;
-    processors = length-set g.processors cpu new ∙ f.sizes.processors;
-    files = f.sizes.files;
-    swap = f.sizes.swap;
-    slots = f.sizes.slots;
-    index = f.sizes.index;
-    blocks = f.sizes.blocks;
-  };
-  pages = f.pages;
-  slots = f.slots;
-  entries = f.entries;
-  pins = f.pins;
-  locks = LocksFit-passed g (with_phase g cpu phase) cpu phase f.locks refl refl (length-set g.processors cpu new)
-      (ap (λ (p : Processor). p.phase) (get_or-set_same g.processors cpu new first_processor below))
-      (λ q n. get_or-set_other g.processors cpu q new first_processor n) own none now;
-  hints = f.hints;
-  contents = f.contents;
-  flat = record { lengths = f.flat.lengths; pages = f.flat.pages };
-  journal = JournalFit-phase g (with_phase g cpu phase) cpu phase f.journal refl refl (change-with_phase g.processors cpu phase below);
-  faults = f.faults;
-}
+FitAt-phase state g v d cpu phase f below own none teardown now =
+    FitAt-others state state g v d g.parts.maps g.journal (set g.processors cpu (record { place = (processor_at g cpu).place; phase = phase })) f refl change.size (record {
+      slots = f.slots;
+      entries = f.entries;
+      pins = f.pins;
+      locks = LocksFit-passed g (with_phase g cpu phase) cpu phase f.locks refl refl refl change.size (ap (λ (p : Processor). p.phase) change.here) change.others own none now;
+      teardowns = TeardownsFit-kept state g (with_phase g cpu phase) f.slots f.teardowns (keeps_tearing-phase g (with_phase g cpu phase) cpu phase refl change)
+          (keeps_torn-same g.parts.maps g.parts.maps refl);
+      journal = JournalFit-phase g (with_phase g cpu phase) cpu phase f.journal refl refl change;
+    })
   where
-    new : Processor
-    new = record { place = (processor_at g cpu).place; phase = phase }
+    change : PhaseChange g.processors (set g.processors cpu (record { place = (processor_at g cpu).place; phase = phase })) cpu phase
+    change = change-with_phase g.processors cpu phase below teardown
 
 -- a sync stays where it is in its file, whatever phase and tables are set; it may also be at another page of the file
 pub syncing-at : (g : GuestState) (cpu file index next : ℕ) (after : Parts) (phase : Phase) → IsSyncing g cpu file index → next < file_pages g.plan.files file
@@ -96,10 +82,12 @@ pub Fit-passed : (g : GuestState) (v : StorageView) (d : DiskView) (h : GuestSta
     → HasPassed g cpu file index g.parts h t → Fit h v d
 unfolding with_phase
 Fit-passed g v d h cpu file index t f k own (goes_on more eh et) =
-    rw eh (FitAt-phase (flat_of g.plan g.journal) g v d cpu (AtSync (index + 1)) f k.cpu_below own tt (file, syncing-at g cpu file index (index + 1) g.parts (AtSync (index + 1)) k more))
+    rw eh (FitAt-phase (flat_of g.plan g.journal) g v d cpu (AtSync (index + 1)) f k.cpu_below own tt (sym (sync-tears_nothing g cpu file f.teardowns k.command))
+    (file, syncing-at g cpu file index (index + 1) g.parts (AtSync (index + 1)) k more))
 Fit-passed g v d h cpu file index t f k own (is_done last eh et) =
     rw eh (subst (λ (q : GuestState). Fit q v d) (entered-start g cpu (Sync file) Done k.cpu_below)
-    (Fit-stepped (with_phase g cpu Start) v d cpu (Sync file) Done flat (FitAt-phase flat g v d cpu Start f k.cpu_below own tt tt) (start-has g cpu (Sync file) has) (start-phase g cpu k.cpu_below)
+    (Fit-stepped (with_phase g cpu Start) v d cpu (Sync file) Done flat
+    (FitAt-phase flat g v d cpu Start f k.cpu_below own tt (sym (sync-tears_nothing g cpu file f.teardowns k.command)) tt) (start-has g cpu (Sync file) has) (start-phase g cpu k.cpu_below)
     (step_done flat (process_of g.plan cpu) (Sync file) (refused-same g v d cpu (Sync file) f has ∙ accepted_file file (length g.plan.files) k.file_below))))
   where
     flat : FlatState

@@ -18,7 +18,8 @@ use Rattle.guest_rules.proofs.Fit.FitMay.{FitAt-may}
 use Rattle.guest_rules.proofs.Fit.Replies.{Fit-fails}
 use Rattle.guest_rules.proofs.Fit.StepFreed.{Fit-gone}
 use Rattle.guest_rules.proofs.Fit.StepTold.{Fit-rehinted}
-use Rattle.guest_rules.proofs.Fit.StepSynced.{syncs-at, syncs-none, writes-at, Fit-locked, Fit-written_back, Fit-not_written}
+use Rattle.guest_rules.proofs.Fit.StepLocked.{Fit-written_back, Fit-not_written}
+use Rattle.guest_rules.proofs.Fit.StepSynced.{syncs-at, syncs-none, writes-at, writes-holds, Fit-sync_locked}
 use Rattle.guest_rules.proofs.Cases.Passed.{HasPassed, goes_on, is_done, has_passed}
 use Rattle.guest_rules.proofs.Fit.FitPassed.{entered-start, start-has, start-phase, syncing-at, Fit-passed}
 
@@ -55,16 +56,18 @@ Fit-sync g v d h w e cpu file index t f (was_clean page found s has back may tol
     (syncs-none g cpu file index s)
     (has_passed g cpu file index g.parts h t passes)
 Fit-sync g v d h w e cpu file index t f (was_locked page found s has back may there dirty value eh et) =
-    rw eh (Fit-locked (flat_of g.plan g.journal) g v d w e cpu file index page found f s has back may there dirty value)
+    rw eh (Fit-sync_locked (flat_of g.plan g.journal) g v d w e cpu file index page found f s has back may there dirty value)
 Fit-sync g v d h w e cpu file index t f (write_missed page why k eh et may risen ee) = rw eh (FitAt-may (flat_of g.plan g.journal) g v d w e f may)
 Fit-sync g v d h w e cpu file index t f (was_written_back page bytes after k are wrote told passes) =
     let at = (writes-at g cpu file index page f.locks k).0 in
-    Fit-passed (with_phase (with_parts g after) cpu Start) w e h cpu file index t (Fit-written_back (flat_of g.plan g.journal) g v d w e cpu file index page bytes after f k are wrote told)
+    Fit-passed (with_phase (with_parts g after) cpu Start) w e h cpu file index t
+    (Fit-written_back (flat_of g.plan g.journal) g v d w e cpu page (File file index) bytes after f (writes-holds g cpu file index page f.locks k) are wrote told)
     (syncing-at g cpu file index index after Start at at.within) (locks_none (with_phase (with_parts g after) cpu Start) cpu Start (start-phase (with_parts g after) cpu k.has.below) tt)
     (passed-start g cpu file index after h t k.has.below (has_passed g cpu file index after h t passes))
 Fit-sync g v d h w e cpu file index t f (write_failed page cause after k back told risen eh et) =
     let now = with_phase (with_parts g after) cpu Start in
     let has = start-has (with_parts g after) cpu (Sync file) (record { below = k.has.below; command = k.has.command }) in
     rw eh (subst (λ (q : GuestState). Fit q w e) (entered-start (with_parts g after) cpu (Sync file) (Fail cause) k.has.below)
-    (Fit-fails now v d w e w e cpu (Sync file) cause (Fit-not_written (flat_of g.plan g.journal) g v d w e cpu file index page after f k back told) has tt
+    (Fit-fails now v d w e w e cpu (Sync file) cause
+    (Fit-not_written (flat_of g.plan g.journal) g v d w e cpu page (File file index) after f (writes-holds g cpu file index page f.locks k) back told) has tt
     (start-phase (with_parts g after) cpu k.has.below) risen))

@@ -16,7 +16,7 @@ use Rattle.guest_rules.specs.Rows.{freed}
 use Rattle.guest_rules.specs.Turns.{begun}
 use Rattle.guest_rules.specs.Fit.{Fit, NeedsPage}
 use Rattle.guest_rules.specs.Answers.{FailCause}
-use Rattle.guest_rules.proofs.Cases.TurnCases.{GivenBack, Has, Maps, TurnCase, was_idle, was_refused, was_mapped, waited, missed, missed_rehinted, was_begun, was_gone, was_read, was_written, touch_failed, was_resolved, was_loaded, was_stored, entry_failed, fill_failed, was_filled, was_pinned, was_sync}
+use Rattle.guest_rules.proofs.Cases.TurnCases.{GivenBack, Has, Maps, TurnCase, was_idle, was_refused, was_mapped, waited, missed, missed_rehinted, was_begun, was_gone, was_read, was_written, touch_failed, was_resolved, was_loaded, was_stored, entry_failed, fill_failed, was_filled, was_pinned, was_sync, was_room, was_unmapped, was_torn}
 use Rattle.guest_rules.proofs.Fit.FitMay.{FitAt-may}
 use Rattle.guest_rules.proofs.Fit.StepBegun.{Fit-begun}
 use Rattle.guest_rules.proofs.Fit.StepFreed.{Fit-gone, Fit-given_up}
@@ -31,6 +31,9 @@ use Rattle.guest_rules.proofs.Fit.ReplyStored.{Fit-stored}
 use Rattle.guest_rules.proofs.Fit.ReplyPinned.{Fit-pinned}
 use Rattle.guest_rules.proofs.Fit.FitPassed.{entered-start, start-has, start-phase}
 use Rattle.guest_rules.proofs.Fit.FitSync.{Fit-sync}
+use Rattle.guest_rules.proofs.Fit.FitRoom.{Fit-room}
+use Rattle.guest_rules.proofs.Fit.ReplyUnmapped.{Fit-unmapped}
+use Rattle.guest_rules.proofs.Fit.FitTorn.{Fit-torn}
 
 -- a page couldn't be filled: it is freed, and the command fails
 Fit-fill_failed : (g : GuestState) (v : StorageView) (d : DiskView) (w : StorageView) (e : DiskView) (cpu : ℕ) (op : Op) (page : ℕ) (cause : Cause) → Fit g v d → Has g cpu op
@@ -57,7 +60,7 @@ unfolding with_phase begun
 fit_turn g cpu v d h t w e f (was_idle none eh et ew ee) = rw (eh, ew, ee) f
 fit_turn g cpu v d h t w e f (was_refused op refusal has start refused eh et ew ee) = rw (eh, ew, ee) (Fit-refused g v d cpu op refusal f has start refused)
 fit_turn g cpu v d h t w e f (was_mapped number file first count writable slot starts free eh et ew ee) = rw (eh, ew, ee) (Fit-mapped g v d cpu number file first count writable slot f starts free)
-fit_turn g cpu v d h t w e f (waited op page owner starts locked eh et ew ee) = rw (eh, ew, ee) f
+fit_turn g cpu v d h t w e f (waited op page owner starts has locked eh et ew ee) = rw (eh, ew, ee) f
 fit_turn g cpu v d h t w e f (missed op why has eh et may risen ee) = rw eh (FitAt-may (flat_of g.plan g.journal) g v d w e f may)
 fit_turn g cpu v d h t w e f (missed_rehinted why op tag page found after starts wants has eh et back may told misses ee) =
     rw eh (Fit-rehinted (flat_of g.plan g.journal) g v d w e page tag found after f has back may told)
@@ -85,3 +88,6 @@ fit_turn g cpu v d h t w e f (entry_failed op writes slot off starts maps eh et 
 fit_turn g cpu v d h t w e f (fill_failed op page cause has phase eh et back unused risen) = rw eh (Fit-fill_failed g v d w e cpu op page cause f has phase back unused risen)
 fit_turn g cpu v d h t w e f (was_filled op page tag has phase tagged eh et back value) = rw eh (Fit-filled (flat_of g.plan g.journal) g v d w e cpu page tag f has.below phase tagged back value)
 fit_turn g cpu v d h t w e f (was_sync file index case) = Fit-sync g v d h w e cpu file index t f case
+fit_turn g cpu v d h t w e f (was_room op case) = Fit-room g v d h w e cpu op t f case
+fit_turn g cpu v d h t w e f (was_unmapped number slot starts found eh et ew ee) = rw (eh, ew, ee) (Fit-unmapped g v d cpu number slot f starts found)
+fit_turn g cpu v d h t w e f (was_torn slot index case) = Fit-torn g v d h w e cpu slot index t f case

@@ -27,6 +27,9 @@ use Rattle.guest_rules.proofs.Cases.Placed.{PinPlace, pin-place, pin-wants}
 use Rattle.guest_rules.proofs.Kept.SlotsKept.{SlotsFit-pinned, pinned_state, slot-below}
 use Rattle.guest_rules.proofs.Kept.EntriesKept.{EntriesFit-pinned}
 use Rattle.guest_rules.proofs.Kept.PinsKept.{PinsStand-pinned, standing}
+use Rattle.guest_rules.proofs.Kept.TeardownsKept.{keeps_torn-pinned}
+use Rattle.guest_rules.proofs.Cases.MapsFound.{found_slot}
+use Rattle.guest_rules.proofs.Ready.Ready.{has_shows}
 use Rattle.guest_rules.proofs.Fit.StepTold.{Fit-told}
 use Rattle.guest_rules.proofs.Fit.Replies.{Fit-stepped, refused-same}
 
@@ -43,13 +46,14 @@ pub Fit-pinned : (g : GuestState) (v : StorageView) (d : DiskView) (w : StorageV
     → IsRehinted (pinned g.parts page slot index pins) page found after (w.values page) → Fit (entered (with_parts g after) cpu (pin_op pins number index) Done) w e
 Fit-pinned g v d w e cpu pins number index slot tag page found after f starts wants at has back may told =
     Fit-stepped (with_parts g after) w e cpu op Done later
-    (Fit-told flat later g v d w e page tag found middle after f has back may (record {
+    (Fit-told flat later g v d w e page tag found middle after f (has_shows flat g v d page tag f has) back may (record {
       files = refl;
       only = only-pinned g.parts page slot index pins;
       change = record { size = change.size; here = refl; others = change.others };
       keeps = rw change.here (record { tag = refl; uptodate = refl; dirty = refl; owner = refl });
       slots = SlotsFit-pinned flat g.parts middle process number slot index pins f.slots place places change.size (ap (λ c. c.files) (only-pinned g.parts page slot index pins).cache);
       entries = EntriesFit-pinned g.parts middle page (pinned_info pins (info_at g.parts.pages page)) f.entries change places.slots places.entries (λ t a u. (a, u)) refl;
+      torn = let its = found_slot g.parts.maps process number slot at in keeps_torn-pinned g.parts.maps middle.maps slot index pins its.mapping places its.at its.live;
       pins = PinsStand-pinned g.parts middle page slot index pins tag (pinned_info pins (info_at g.parts.pages page)) (standing g.parts f.pins) f.pages (record {
         maps = places;
         cache = (only-pinned g.parts page slot index pins).cache;

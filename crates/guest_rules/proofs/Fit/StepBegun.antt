@@ -20,11 +20,11 @@ use Rattle.guest_rules.specs.Turns.{begun}
 use Rattle.guest_rules.specs.Fit.{FitAt, one_if_lost}
 use Rattle.guest_rules.proofs.Cases.TurnCases.{GivenBack, Starts, Wants}
 use Rattle.guest_rules.proofs.Rows.ValueLaws.{hint-free, hint-stale, may-usage, may-faults}
-use Rattle.guest_rules.proofs.Kept.Changes.{InfoChange, IndexChange, PhaseChange, change-with_page, change-with_phase}
+use Rattle.guest_rules.proofs.Kept.Changes.{InfoChange, IndexChange, PhaseChange, teardown_of, change-with_page, change-with_phase}
 use Rattle.guest_rules.proofs.Kept.RowChanges.{begun_info, change-begun, begun-free}
 use Rattle.guest_rules.proofs.Kept.PageFits.{PageFits}
 use Rattle.guest_rules.proofs.Kept.PagesKept.{PagesFit-begun}
-use Rattle.guest_rules.proofs.Kept.LocksKept.{LocksFit-begun}
+use Rattle.guest_rules.proofs.Kept.LocksKept.{blocks-same, LocksFit-begun}
 use Rattle.guest_rules.proofs.Kept.SlotsKept.{SlotsFit-kept}
 use Rattle.guest_rules.proofs.Kept.EntriesKept.{EntriesFit-info}
 use Rattle.guest_rules.proofs.Kept.CurrentsKept.{current-begun, FlatFit-same}
@@ -32,6 +32,7 @@ use Rattle.guest_rules.proofs.Fit.FitMay.{infos-pages}
 use Rattle.guest_rules.proofs.Fit.FitChanged.{TableStep, step-same, FitAt-step}
 use Rattle.guest_rules.proofs.Cases.WantedTags.{IsWanted, is_wanted}
 use Rattle.guest_rules.proofs.Kept.PinsKept.{PinsStand-begun, standing}
+use Rattle.guest_rules.proofs.Kept.TeardownsKept.{keeps_torn-same}
 use Rattle.guest_rules.proofs.Kept.Unpinned.{begun-needs}
 
 -- a free page is unchanged after it was made stable, where it isn't a page of bytes
@@ -72,7 +73,7 @@ Fit-begun state g v d w e cpu op tag page rest found f starts wants none top bac
     (EntriesFit-info g.parts h.parts page (begun_info tag cpu) f.entries change refl (λ t t_is u. let bad : None ≡ Some t = sym free.1 ∙ t_is in absurd cc)
     (ap (λ (i : PageInfo). i.writers) (sym bare)))
     (LocksFit-begun g h cpu page op (begun_info tag cpu) tag f.locks refl starts.has.below within starts.has.command (begun-needs state g v d cpu op tag f starts wants none) starts.start
-    (ap (λ (i : PageInfo). i.owner) bare) change phase refl refl refl refl)
+    (ap (λ (i : PageInfo). i.owner) bare) change phase refl refl refl refl (blocks-same g.parts.cache h.parts.cache index.files index.swap))
     (FlatFit-same state g h v w d e f.flat refl index.files index.slots
     (current-begun g.parts h.parts v w d e page tag (step-same state g v d h w e cpu page (Fill page) (begun_info tag cpu) f step) index free.1 none (ap (λ (i : PageInfo). i.uptodate) change.here)))
     (record { handled = omega arith; counted = rw value (omega (arith, may-faults (v.values page) found may, stable-kept found)) })
@@ -102,7 +103,7 @@ Fit-begun state g v d w e cpu op tag page rest found f starts wants none top bac
     change = change-begun g.parts page tag cpu within
 
     phase : PhaseChange g.processors h.processors cpu (Fill page)
-    phase = change-with_phase g.processors cpu (Fill page) starts.has.below
+    phase = change-with_phase g.processors cpu (Fill page) starts.has.below (ap teardown_of (sym starts.start))
 
     unused : found.usage ≡ U
     unused = may-usage (v.values page) found may ∙ f.hints.hints page below ∙ ap hint bare ∙ hint-free
@@ -119,6 +120,7 @@ Fit-begun state g v d w e cpu op tag page rest found f starts wants none top bac
       index = index.size;
       info_change = change;
       phase_change = phase;
+      torn = keeps_torn-same g.parts.maps g.parts.maps refl;
       pins = PinsStand-begun state g.parts h.parts page tag (begun_info tag cpu) (standing g.parts f.pins) f.pages f.slots bare none refl refl change index (record { slots = refl; pinned = refl });
       fits = rw value (PageFits-begun g d cpu tag found wanted.of_file unused (MayBecome-is_value (v.values page) found (f.hints.values page below) may));
     }

@@ -15,16 +15,17 @@ use Rattle.guest_rules.specs.Hint.{hint}
 use Rattle.guest_rules.specs.Rows.{filled}
 use Rattle.guest_rules.specs.Fit.{FitAt, backing, current_bytes, one_if_lost}
 use Rattle.guest_rules.proofs.Cases.TurnCases.{GivenBack}
-use Rattle.guest_rules.proofs.Kept.Changes.{InfoChange, PhaseChange, change-with_phase}
+use Rattle.guest_rules.proofs.Kept.Changes.{InfoChange, PhaseChange, teardown_of, change-with_phase}
 use Rattle.guest_rules.proofs.Kept.RowChanges.{filled_info, change-filled, filled-free}
 use Rattle.guest_rules.proofs.Kept.PageFits.{PageFits}
 use Rattle.guest_rules.proofs.Kept.Currents.{current_bytes-stale}
 use Rattle.guest_rules.proofs.Kept.PagesKept.{PagesFit-kept}
-use Rattle.guest_rules.proofs.Kept.LocksKept.{LocksFit-released}
+use Rattle.guest_rules.proofs.Kept.LocksKept.{blocks-kept, LocksFit-released}
 use Rattle.guest_rules.proofs.Kept.SlotsKept.{SlotsFit-kept}
 use Rattle.guest_rules.proofs.Kept.EntriesKept.{EntriesFit-info}
 use Rattle.guest_rules.proofs.Kept.Unshown.{stale-unshown}
 use Rattle.guest_rules.proofs.Kept.PinsKept.{PinsStand-info, standing}
+use Rattle.guest_rules.proofs.Kept.TeardownsKept.{keeps_torn-same}
 use Rattle.guest_rules.proofs.Kept.Unpinned.{stale-unpinned}
 use Rattle.guest_rules.proofs.Kept.CurrentsKept.{current-kept, FlatFit-same}
 use Rattle.guest_rules.proofs.Fit.FitMay.{infos-pages}
@@ -62,7 +63,8 @@ Fit-filled state g v d w e cpu page tag f below phase tagged back value =
     (PagesFit-kept g.parts h.parts page (filled_info (info_at g.parts.pages page)) tag f.pages tagged tagged (filled-free g.parts page) change refl)
     (SlotsFit-kept state state g.parts h.parts f.slots refl refl refl refl refl change.size refl)
     (EntriesFit-info g.parts h.parts page (filled_info (info_at g.parts.pages page)) f.entries change refl (λ t t_is u. (t_is, refl)) refl)
-    (LocksFit-released g h cpu page (filled_info (info_at g.parts.pages page)) f.locks refl change phases refl (inl phase) (record { clean = λ u. clean; stale = λ t k none. refl }))
+    (LocksFit-released g h cpu page (filled_info (info_at g.parts.pages page)) f.locks refl change phases refl (inl phase) (record { clean = λ u. clean; stale = λ t k none. refl })
+    (blocks-kept g.parts.cache h.parts.cache refl))
     (FlatFit-same state g h v w d e f.flat refl refl refl (current-kept g.parts h.parts v w d e page
     (step-same state g v d h w e cpu page Start (filled_info (info_at g.parts.pages page)) f step) refl here))
     (record {
@@ -92,7 +94,7 @@ Fit-filled state g v d w e cpu page tag f below phase tagged back value =
     change = change-filled g.parts page within
 
     phases : PhaseChange g.processors h.processors cpu Start
-    phases = change-with_phase g.processors cpu Start below
+    phases = change-with_phase g.processors cpu Start below (ap teardown_of (sym phase))
 
     here : (t : Tag) → (info_at g.parts.pages page).tag ≡ Some t
         → current_bytes (info_at h.parts.pages page).uptodate (w.values page).contents (backing g.parts.cache d t)
@@ -116,6 +118,7 @@ Fit-filled state g v d w e cpu page tag f below phase tagged back value =
       index = refl;
       info_change = change;
       phase_change = phases;
+      torn = keeps_torn-same g.parts.maps g.parts.maps refl;
       pins = PinsStand-info g.parts h.parts page (filled_info (info_at g.parts.pages page)) (standing g.parts f.pins) change refl (record { slots = refl; pinned = refl }) refl refl (λ u. refl);
       fits = PageFits-filled g d (info_at g.parts.pages page) tag of_file.0 of_file.1 (w.values page) tagged of_file.2 (stale-unpinned g.parts page tag f.pins f.pages tagged stale)
           (stale-unshown g.parts page f.entries stale) clean

@@ -1,5 +1,5 @@
--- Fit after a page with a tag was freed: handled after a discard, or given up after a failure.
-use Rattle.std.proofs.Common.{◌≡◌, ◌<◌, ◌≤◌, ◌+◌, ℕ, true, length, Some, None, refl, ap, sym, ◌∙◌, inl, arith}
+-- Fit after a page with a tag was freed: handled after a discard, given up after a failure, or clean where room is made.
+use Rattle.std.proofs.Common.{◌≡◌, ◌<◌, ◌≤◌, ◌+◌, ℕ, true, false, length, Some, None, refl, ap, sym, ◌∙◌, inl, subst, arith}
 use Rattle.cmm_types.specs.declared.page.Tag.{Tag}
 use Rattle.cmm_io.specs.DiskView.{DiskView}
 use Rattle.cmm_flat.specs.State.{FlatState}
@@ -12,18 +12,21 @@ use Rattle.guest_rules.specs.declared.processor.Phase.{Phase}
 use Rattle.guest_rules.specs.declared.processor.Phase.TheVariants.{Start, Fill}
 use Rattle.guest_rules.specs.GuestState.{GuestState, processor_at, with_parts, with_phase}
 use Rattle.guest_rules.specs.Rows.{freed, handled}
+use Rattle.guest_rules.specs.MakeRoom.{behind}
+use Rattle.guest_rules.specs.declared.parts.Parts.{Parts}
 use Rattle.guest_rules.specs.Fit.{LocksFit, FitAt, backing, current_bytes, one_if_lost}
 use Rattle.guest_rules.proofs.Cases.TurnCases.{GivenBack, HasPage}
 use Rattle.guest_rules.proofs.Rows.ValueLaws.{may-faults, lost_of}
-use Rattle.guest_rules.proofs.Kept.Changes.{InfoChange, IndexChange, PhaseChange, change-without_page, change-with_phase, change-nothing}
+use Rattle.guest_rules.proofs.Kept.Changes.{InfoChange, IndexChange, PhaseChange, teardown_of, change-without_page, change-with_phase, change-nothing}
 use Rattle.guest_rules.proofs.Kept.RowChanges.{change-freed, freed-free, freed-cache, freed-faults, freed-maps, handled-pages, handled-cache, handled-maps}
-use Rattle.guest_rules.proofs.Kept.PageFits.{PageFits, PageFits-free, EachPageFits-from}
+use Rattle.guest_rules.proofs.Kept.PageFits.{PageFits, PageFits-free, PageFits-may, EachPageFits-from}
 use Rattle.guest_rules.proofs.Kept.Currents.{current_bytes-may, current_bytes-stale, current_bytes-lost}
 use Rattle.guest_rules.proofs.Kept.PagesKept.{PagesFit-freed}
-use Rattle.guest_rules.proofs.Kept.LocksKept.{LockInfo, LocksFit-released, LocksFit-unlocked}
+use Rattle.guest_rules.proofs.Kept.LocksKept.{KeepsBlocks, blocks-same, LockInfo, LocksFit-released, LocksFit-unlocked}
 use Rattle.guest_rules.proofs.Kept.EntryLaws.{length-without}
 use Rattle.guest_rules.proofs.Kept.SlotsKept.{SlotsFit-kept}
 use Rattle.guest_rules.proofs.Kept.PinsKept.{SamePlaces, PinsStand-freed, standing}
+use Rattle.guest_rules.proofs.Kept.TeardownsKept.{KeepsTorn, keeps_torn-without}
 use Rattle.guest_rules.proofs.Kept.Unpinned.{stale-unpinned, lost-unpinned}
 use Rattle.guest_rules.proofs.Kept.EntriesKept.{EntriesFit-freed}
 use Rattle.guest_rules.proofs.Kept.CurrentsKept.{current-freed, FlatFit-same}
@@ -35,7 +38,8 @@ Fit-freed : (state : FlatState) (g : GuestState) (v : StorageView) (d : DiskView
     → FitAt state g v d → GivenBack page v d w e → page < length g.parts.pages.infos
     → (info_at g.parts.pages page).tag ≡ Some tag → h.plan ≡ g.plan → h.journal ≡ g.journal → h.parts.pages ≡ (freed g.parts page).pages → h.parts.cache ≡ (freed g.parts page).cache
     → h.parts.maps ≡ (freed g.parts page).maps
-    → PhaseChange g.processors h.processors cpu phase_after → PageFits g.parts.cache d free_info (w.values page) → (InfoChange g.parts.pages h.parts.pages page free_info → LocksFit h)
+    → PhaseChange g.processors h.processors cpu phase_after → PageFits g.parts.cache d free_info (w.values page)
+    → (InfoChange g.parts.pages h.parts.pages page free_info → KeepsBlocks g.parts.cache h.parts.cache → LocksFit h)
     → current_bytes (info_at g.parts.pages page).uptodate (v.values page).contents (backing g.parts.cache d tag) ≡ backing g.parts.cache d tag → (info_at g.parts.pages page).pins ≡ 0
     → FaultStep more g v h w page → FitAt state h w e
 Fit-freed state g v d h w e cpu page more phase_after tag f back within tagged plan journal pages cache maps phase fits locks behind unpinned faults =
@@ -44,7 +48,7 @@ Fit-freed state g v d h w e cpu page more phase_after tag f back within tagged p
     (SlotsFit-kept state state g.parts h.parts f.slots refl places.slots (ap (λ (m : MapsView). length m.entries) without ∙ length-without g.parts.maps page) places.pinned
     (ap (λ (m : MapsView). m.pages) without ∙ pages-without_entries_of g.parts.maps page) change.size index.files)
     (EntriesFit-freed g.parts h.parts page f.entries change without)
-    (locks change)
+    (locks change (blocks-same g.parts.cache h.parts.cache index.files index.swap))
     (FlatFit-same state g h v w d e f.flat plan index.files index.slots
     (current-freed g.parts h.parts v w d e page tag (step-same state g v d h w e cpu page phase_after free_info f step) index tagged behind)) faults
   where
@@ -75,6 +79,7 @@ Fit-freed state g v d h w e cpu page more phase_after tag f back within tagged p
       index = index.size;
       info_change = change;
       phase_change = phase;
+      torn = subst (KeepsTorn g.parts.maps) (sym without) (keeps_torn-without g.parts.maps page);
       pins = PinsStand-freed state g.parts h.parts page tag (standing g.parts f.pins) f.pages f.slots tagged unpinned change index places;
       fits = fits;
     }
@@ -107,7 +112,7 @@ Fit-gone state g v d w e tag page found f has back may lost unused =
     Fit-freed state g v d (with_parts g (handled g.parts page)) w e 0 page 1 (processor_at g 0).phase tag f back has.below has.tagged refl refl (handled-pages g.parts page)
     (handled-cache g.parts page) (handled-maps g.parts page)
     (change-nothing g.processors 0 (processor_at g 0).phase refl) (PageFits-unused g d found (w.values page) unused)
-    (λ change. LocksFit-unlocked g (with_parts g (handled g.parts page)) page free_info f.locks refl refl change has.unlocked refl free_lock) behind
+    (λ change blocks. LocksFit-unlocked g (with_parts g (handled g.parts page)) page free_info f.locks refl refl change has.unlocked refl free_lock blocks) behind
     (lost-unpinned state g v d page tag found f has.below has.tagged may lost)
     (record {
       handled = handled-faults g page;
@@ -123,6 +128,57 @@ Fit-gone state g v d w e tag page found f has back may lost unused =
         sym (current_bytes-may g.parts.cache d (info_at g.parts.pages page) (v.values page) found tag fits has.tagged may)
         ∙ current_bytes-lost (info_at g.parts.pages page).uptodate found.contents (backing g.parts.cache d tag) lost
 
+-- the hand is no part of fit
+behind-pages : (parts : Parts) (page : ℕ) → (behind parts page).pages ≡ parts.pages
+unfolding behind
+behind-pages parts page = refl
+
+behind-cache : (parts : Parts) (page : ℕ) → (behind parts page).cache ≡ parts.cache
+unfolding behind
+behind-cache parts page = refl
+
+behind-maps : (parts : Parts) (page : ℕ) → (behind parts page).maps ≡ parts.maps
+unfolding behind
+behind-maps parts page = refl
+
+behind-faults : (parts : Parts) (page : ℕ) → (behind parts page).faults ≡ parts.faults
+unfolding behind
+behind-faults parts page = refl
+
+-- a clean page that isn't pinned is freed to make room: its block has its bytes
+pub Fit-cleared : (state : FlatState) (g : GuestState) (v : StorageView) (d : DiskView) (w : StorageView) (e : DiskView) (tag : Tag) (page : ℕ) (found : PageValue) → FitAt state g v d
+    → HasPage g tag page → (info_at g.parts.pages page).pins ≡ 0 → GivenBack page v d w e → MayBecome (v.values page) found → is_lost found.contents ≡ false → found.changed ≡ false
+    → (info_at g.parts.pages page).dirty ≡ false → IsMadeUnused found (w.values page)
+    → FitAt state (with_parts g (behind (freed g.parts page) page)) w e
+Fit-cleared state g v d w e tag page found f has unpinned back may there unchanged clean unused =
+    Fit-freed state g v d (with_parts g after) w e 0 page 0 (processor_at g 0).phase tag f back has.below has.tagged refl refl (behind-pages (freed g.parts page) page)
+    (behind-cache (freed g.parts page) page) (behind-maps (freed g.parts page) page)
+    (change-nothing g.processors 0 (processor_at g 0).phase refl) (PageFits-unused g d found (w.values page) unused)
+    (λ change blocks. LocksFit-unlocked g (with_parts g after) page free_info f.locks refl refl change has.unlocked refl free_lock blocks) backed unpinned
+    (record {
+      handled = omega (arith, behind-faults (freed g.parts page) page, freed-faults g.parts page);
+      counted = omega (arith, may-faults (v.values page) found may, unused-kept found (w.values page) unused, unused.count);
+    })
+  where
+    after : Parts
+    after = behind (freed g.parts page) page
+
+    uptodate : (info_at g.parts.pages page).uptodate ≡ true
+    uptodate = f.locks.stale page tag has.tagged has.unlocked
+
+    fits : PageFits g.parts.cache d (info_at g.parts.pages page) (v.values page)
+    fits = (EachPageFits-from g.parts v d (infos-pages g v d f.sizes) f.pins f.hints f.contents).each page (rw (infos-pages g v d f.sizes) at has.below)
+
+    -- the page has what its block has
+    same : found.contents ≡ Bytes (backing g.parts.cache d tag)
+    same = (PageFits-may g.parts.cache d (info_at g.parts.pages page) (v.values page) found fits may).same tag has.tagged uptodate clean unchanged there
+
+    backed : current_bytes (info_at g.parts.pages page).uptodate (v.values page).contents (backing g.parts.cache d tag) ≡ backing g.parts.cache d tag
+    backed =
+        sym (current_bytes-may g.parts.cache d (info_at g.parts.pages page) (v.values page) found tag fits has.tagged may)
+        ∙ ap (λ u. current_bytes u found.contents (backing g.parts.cache d tag)) uptodate
+        ∙ ap (λ c. current_bytes true c (backing g.parts.cache d tag)) same
+
 -- a page that couldn't be filled is free, and its processor is in phase Start
 pub Fit-given_up : (state : FlatState) (g : GuestState) (v : StorageView) (d : DiskView) (w : StorageView) (e : DiskView) (cpu page : ℕ) → FitAt state g v d → cpu < length g.processors
     → (processor_at g cpu).phase ≡ Fill page
@@ -130,11 +186,12 @@ pub Fit-given_up : (state : FlatState) (g : GuestState) (v : StorageView) (d : D
 unfolding with_phase
 Fit-given_up state g v d w e cpu page f below phase back unused =
     let k = (f.locks.filling cpu page phase).1 in
+    let phases = change-with_phase g.processors cpu Start below (ap teardown_of (sym phase)) in
     Fit-freed state g v d (with_phase (with_parts g (freed g.parts page)) cpu Start) w e cpu page 0 Start k.tag f back k.below k.tagged refl refl refl refl refl
-    (change-with_phase g.processors cpu Start below)
+    phases
     (PageFits-unused g d (v.values page) (w.values page) unused)
-    (λ change. LocksFit-released g (with_phase (with_parts g (freed g.parts page)) cpu Start) cpu page free_info f.locks refl change (change-with_phase g.processors cpu Start below) refl
-    (inl phase) free_lock)
+    (λ change blocks. LocksFit-released g (with_phase (with_parts g (freed g.parts page)) cpu Start) cpu page free_info f.locks refl change phases refl
+    (inl phase) free_lock blocks)
     (current_bytes-stale (info_at g.parts.pages page).uptodate (v.values page).contents (backing g.parts.cache d k.tag) k.stale)
     (stale-unpinned g.parts page k.tag f.pins f.pages k.tagged k.stale)
     (record { handled = omega (arith, freed-faults g.parts page); counted = omega (arith, unused-kept (v.values page) (w.values page) unused, unused.count) })

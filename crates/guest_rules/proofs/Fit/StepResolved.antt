@@ -1,5 +1,5 @@
 -- Fit after an entry was set for a load or a store.
-use Rattle.std.proofs.Common.{◌≡◌, ◌<◌, ◌≤◌, ◌+◌, ◌*◌, ◌/◌, ◌&&◌, not, nat_le, if◌then◌else◌, ℕ, Bool, true, false, length, Option, Some, None, refl, ap, sym, ◌∙◌, arith}
+use Rattle.std.proofs.Common.{◌≡◌, ◌<◌, ◌≤◌, ◌+◌, ◌*◌, ◌/◌, ◌&&◌, not, nat_le, if◌then◌else◌, ℕ, Bool, true, false, length, Option, Some, None, refl, ap, sym, ◌∙◌, subst, arith}
 use Rattle.std.proofs.lemmas.Bool.{leb-true}
 use Rattle.std.proofs.lemmas.List.Quantifiers.{position-Some}
 use Rattle.cmm_types.specs.declared.page.TheConstants.{PAGE}
@@ -13,6 +13,7 @@ use Rattle.cmm_flat.specs.Legal.{process_of}
 use Rattle.essa_state.specs.PageValue.{PageValue, MayBecome}
 use Rattle.cmm_storage.specs.StorageView.{StorageView}
 use Rattle.guest_pages.specs.PagesView.{info_at}
+use Rattle.guest_maps.specs.declared.slot.Slot.{Slot}
 use Rattle.guest_maps.specs.MapsView.{MapsView, slot_at, find_slot, entry_at, tag_at, is_mapping, with_entry}
 use Rattle.guest_maps.specs.Laws.MapsLaws.{slots-with_entry, pinned-with_entry, pages-with_entry}
 use Rattle.guest_rules.specs.declared.parts.Parts.{Parts}
@@ -20,14 +21,17 @@ use Rattle.guest_rules.specs.GuestState.{GuestState, with_parts}
 use Rattle.guest_rules.specs.Rows.{mapped}
 use Rattle.guest_rules.specs.Turns.{slot_writable, mapping_pages, refusal_at}
 use Rattle.guest_rules.specs.Fit.{FitAt}
-use Rattle.guest_rules.proofs.Cases.TurnCases.{GivenBack, Starts, Wants, Maps, HasPage, IsRehinted, CanBeSet, tag_in}
+use Rattle.guest_rules.proofs.Cases.TurnCases.{GivenBack, Starts, Wants, Maps, HasPage, IsRehinted, CanBeSet, found_tag}
 use Rattle.guest_rules.proofs.Kept.Changes.{InfoChange}
 use Rattle.guest_rules.proofs.Kept.RowChanges.{shown_info, change-mapped, only-mapped, maps-mapped}
 use Rattle.guest_rules.proofs.Kept.EntryLaws.{length-with_entry}
 use Rattle.guest_rules.proofs.Kept.SlotsKept.{SlotsFit-kept}
 use Rattle.guest_rules.proofs.Kept.EntriesKept.{EntriesFit-mapped}
 use Rattle.guest_rules.proofs.Kept.PinsKept.{SamePlaces, PinsStand-info, standing}
+use Rattle.guest_rules.proofs.Kept.TeardownsKept.{KeepsTorn, keeps_torn-mapped}
+use Rattle.guest_rules.proofs.Cases.MapsFound.{found_slot}
 use Rattle.guest_rules.proofs.Cases.WantedTags.{ShowsAt, shows_at}
+use Rattle.guest_rules.proofs.Ready.Ready.{has_shows}
 use Rattle.guest_rules.proofs.Fit.StepTold.{Fit-told}
 
 -- what an accepted load or store has: its bytes within the mapping, which a store may write
@@ -48,11 +52,14 @@ accepted_at maps writes slot off len e = let k = of (nat_le (off + len) (PAGE * 
 -- the slot, what its place shows, and whether stores may go through it, of a load or store that is accepted
 pub record Through (g : GuestState) (writes : Bool) (slot off : ℕ) (tag : Tag) : Type 0 where
   pub slot_below : slot < length g.parts.maps.slots
+  pub mapping : Slot
+  pub at : slot_at g.parts.maps slot ≡ Some mapping
+  pub live : mapping.live ≡ true
   pub mapped : tag_at g.parts.maps slot (off / PAGE) ≡ Some tag
   pub writable : writes ≡ true → slot_writable (slot_at g.parts.maps slot) ≡ true
 
-tag_of_slot : (g : GuestState) (o : Option ℕ) (slot index : ℕ) (tag : Tag) → o ≡ Some slot → tag_in g.parts o index ≡ Some tag → tag_at g.parts.maps slot index ≡ Some tag
-tag_of_slot g o slot index tag found e = ap (λ q. tag_in g.parts q index) (sym found) ∙ e
+tag_of_slot : (g : GuestState) (o : Option ℕ) (slot index : ℕ) (tag : Tag) → o ≡ Some slot → found_tag g.parts o index ≡ Some tag → tag_at g.parts.maps slot index ≡ Some tag
+tag_of_slot g o slot index tag found e = ap (λ q. found_tag g.parts q index) (sym found) ∙ e
 
 pub found-below : (maps : MapsView) (process number slot : ℕ) → find_slot maps process number ≡ Some slot → slot < length maps.slots
 found-below maps process number slot e = (position-Some (is_mapping process number) maps.slots slot None e).0
@@ -60,11 +67,17 @@ found-below maps process number slot e = (position-Some (is_mapping process numb
 pub through : (g : GuestState) (cpu : ℕ) (op : Op) (tag : Tag) (writes : Bool) (slot off : ℕ) → Starts g cpu op → Wants g cpu op tag → Maps g cpu op writes slot off → Through g writes slot off tag
 through g cpu (Load number at len) tag writes slot off starts wants maps = record {
   slot_below = found-below g.parts.maps (process_of g.plan cpu) number slot maps.1;
+  mapping = (found_slot g.parts.maps (process_of g.plan cpu) number slot maps.1).mapping;
+  at = (found_slot g.parts.maps (process_of g.plan cpu) number slot maps.1).at;
+  live = (found_slot g.parts.maps (process_of g.plan cpu) number slot maps.1).live;
   mapped = ap (λ n. tag_at g.parts.maps slot (n / PAGE)) maps.2 ∙ tag_of_slot g (find_slot g.parts.maps (process_of g.plan cpu) number) slot (at / PAGE) tag maps.1 wants;
   writable = λ w. let bad : false ≡ true = sym maps.0 ∙ w in absurd cc;
 }
 through g cpu (Store number at bytes) tag writes slot off starts wants maps = record {
   slot_below = found-below g.parts.maps (process_of g.plan cpu) number slot maps.1;
+  mapping = (found_slot g.parts.maps (process_of g.plan cpu) number slot maps.1).mapping;
+  at = (found_slot g.parts.maps (process_of g.plan cpu) number slot maps.1).at;
+  live = (found_slot g.parts.maps (process_of g.plan cpu) number slot maps.1).live;
   mapped = ap (λ n. tag_at g.parts.maps slot (n / PAGE)) maps.2 ∙ tag_of_slot g (find_slot g.parts.maps (process_of g.plan cpu) number) slot (at / PAGE) tag maps.1 wants;
   writable = λ w. (accepted_at g.parts.maps true slot at (length bytes) (ap (refusal_at g.parts.maps true at (length bytes)) (sym maps.1) ∙ starts.accepted)).writable refl;
 }
@@ -76,7 +89,7 @@ pub Fit-resolved : (state : FlatState) (g : GuestState) (v : StorageView) (d : D
     → MayBecome (v.values page) found
     → IsRehinted (mapped g.parts page slot (off / PAGE) writes) page found after (w.values page) → FitAt state (with_parts g after) w e
 Fit-resolved state g v d w e cpu op tag writes slot off page found after f starts wants maps has can back may told =
-    Fit-told state state g v d w e page tag found middle after f has back may (record {
+    Fit-told state state g v d w e page tag found middle after f (has_shows state g v d page tag f has) back may (record {
       files = refl;
       only = only-mapped g.parts page slot (off / PAGE) writes;
       change = record { size = change.size; here = refl; others = change.others };
@@ -93,6 +106,7 @@ Fit-resolved state g v d w e cpu op tag writes slot off page found after f start
         writable = its.writable;
         can = can;
       }) change set;
+      torn = subst (KeepsTorn g.parts.maps) (sym set) (keeps_torn-mapped g.parts.maps slot (off / PAGE) its.mapping _ its.at its.live (omega (arith, shown.below, shown.few)));
       pins = PinsStand-info g.parts middle page (shown_info writes (info_at g.parts.pages page)) (standing g.parts f.pins) change
           (only-mapped g.parts page slot (off / PAGE) writes).cache places refl refl (λ u. u);
     })

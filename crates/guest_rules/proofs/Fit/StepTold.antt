@@ -14,18 +14,20 @@ use Rattle.guest_rules.specs.GuestState.{GuestState, processor_at, with_parts}
 use Rattle.guest_rules.specs.Hint.{hint}
 use Rattle.guest_rules.specs.Rows.{with_change}
 use Rattle.guest_rules.specs.Fit.{FitAt, SlotsFit, EntriesFit, FlatFit, backing, current_bytes, one_if_lost}
-use Rattle.guest_rules.proofs.Cases.TurnCases.{GivenBack, HasPage, IsRehinted}
+use Rattle.guest_rules.proofs.Cases.TurnCases.{GivenBack, HasPage, ShowsPage, IsRehinted}
 use Rattle.guest_rules.proofs.Rows.ValueLaws.{may-faults}
 use Rattle.guest_rules.proofs.Kept.Changes.{InfoChange, InfoChange-trans, change-nothing}
 use Rattle.guest_rules.proofs.Kept.RowChanges.{OnlyPages, changed_info, change-changed, only-changed, maps-changed}
 use Rattle.guest_rules.proofs.Kept.PageFits.{PageFits, EachPageFits-from, PageFits-may}
 use Rattle.guest_rules.proofs.Kept.Currents.{current_bytes-may}
 use Rattle.guest_rules.proofs.Kept.PagesKept.{PagesFit-kept}
-use Rattle.guest_rules.proofs.Kept.LocksKept.{LocksFit-kept}
+use Rattle.guest_rules.proofs.Kept.LocksKept.{blocks-kept, LocksFit-kept}
 use Rattle.guest_rules.proofs.Kept.SlotsKept.{SlotsFit-kept}
 use Rattle.guest_rules.proofs.Kept.PinsKept.{PinsStand, PinsStand-info, standing}
 use Rattle.guest_rules.proofs.Kept.EntriesKept.{EntriesFit-info}
+use Rattle.guest_rules.proofs.Kept.TeardownsKept.{KeepsTorn, keeps_torn-same}
 use Rattle.guest_rules.proofs.Kept.CurrentsKept.{current-kept, FlatFit-same}
+use Rattle.guest_rules.proofs.Ready.Ready.{has_shows}
 use Rattle.guest_rules.proofs.Fit.FitMay.{infos-pages}
 use Rattle.guest_rules.proofs.Fit.FitChanged.{TableStep, step-same, FitAt-step}
 
@@ -90,6 +92,7 @@ pub record Middle (state later : FlatState) (g : GuestState) (middle : Parts) (p
   pub keeps : KeepsPage (info_at g.parts.pages page) (info_at middle.pages page)
   pub slots : SlotsFit later middle
   pub entries : EntriesFit middle
+  pub torn : KeepsTorn g.parts.maps middle.maps
   pub pins : PinsStand middle
 
 -- the page was found there, and left so
@@ -102,7 +105,7 @@ FlatFit-files : (state later : FlatState) (g : GuestState) (v : StorageView) (d 
 FlatFit-files state later g v d f files = record { lengths = rw files f.lengths; pages = λ file index is. rw files (f.pages file index is) }
 
 Fit-changed : (state later : FlatState) (g : GuestState) (v : StorageView) (d : DiskView) (w : StorageView) (e : DiskView) (page : ℕ) (tag : Tag) (found : PageValue) (middle : Parts)
-    → FitAt state g v d → HasPage g tag page → GivenBack page v d w e
+    → FitAt state g v d → ShowsPage g tag page → GivenBack page v d w e
     → MayBecome (v.values page) found → Middle state later g middle page → IsTold middle page found (w.values page) → FitAt later (with_parts g (with_change middle page found.changed)) w e
 Fit-changed state later g v d w e page tag found middle f has back may mid told =
     FitAt-step state later g v d h w e 0 page 0 (processor_at g 0).phase new f step
@@ -110,7 +113,8 @@ Fit-changed state later g v d w e page tag found middle f has back may mid told 
     (SlotsFit-kept later later middle after mid.slots refl (ap (λ m. m.slots) maps) (ap (λ m. length m.entries) maps) (ap (λ m. m.pinned) maps) (ap (λ m. m.pages) maps) last.size
     (ap (λ (c : CacheView). c.files) only.cache))
     (EntriesFit-info middle after page new mid.entries last maps (λ t t_is u. (changed.tag ∙ t_is, changed.uptodate ∙ u)) changed.writers)
-    (LocksFit-kept g h page new f.locks refl refl change tags (changed.owner ∙ mid.keeps.owner) uptodates (λ u. let bad : true ≡ false = sym uptodate ∙ sym uptodates ∙ u in cc))
+    (LocksFit-kept g h page new f.locks refl refl change tags (changed.owner ∙ mid.keeps.owner) uptodates (λ u. let bad : true ≡ false = sym uptodate ∙ sym uptodates ∙ u in cc)
+    (blocks-kept g.parts.cache h.parts.cache cache))
     (FlatFit-same later g h v w d e (FlatFit-files state later g v d f.flat mid.files) refl (ap (λ (c : CacheView). c.files) cache) (ap (λ (c : CacheView). c.slots) cache)
     (current-kept g.parts after v w d e page (step-same state g v d h w e 0 page (processor_at g 0).phase new f step) cache here))
     (record { handled = omega (arith, only.faults, mid.only.faults); counted = rw told.value (omega (arith, may-faults (v.values page) found may, not_lost found.contents found refl told.there)) })
@@ -149,7 +153,7 @@ Fit-changed state later g v d w e page tag found middle f has back may mid told 
     uptodates = changed.uptodate ∙ mid.keeps.uptodate
 
     uptodate : (info_at g.parts.pages page).uptodate ≡ true
-    uptodate = f.locks.stale page tag has.tagged has.unlocked
+    uptodate = has.uptodate
 
     below : page < v.pages
     below = rw (infos-pages g v d f.sizes) at has.below
@@ -186,14 +190,15 @@ Fit-changed state later g v d w e page tag found middle f has back may mid told 
       index = ap (λ (c : CacheView). length c.index) cache;
       info_change = change;
       phase_change = change-nothing g.processors 0 (processor_at g 0).phase refl;
+      torn = subst (KeepsTorn g.parts.maps) (sym maps) mid.torn;
       pins = PinsStand-info middle after page new mid.pins last only.cache (record { slots = ap (λ m. m.slots) maps; pinned = ap (λ m. m.pinned) maps }) changed.tag changed.pins
           (λ u. changed.uptodate ∙ u);
       fits = fits;
     }
 
--- the page was found there, and its hint was told over the tables between
+-- the page, which may be locked, was found there, and its hint was told over the tables between
 pub Fit-told : (state later : FlatState) (g : GuestState) (v : StorageView) (d : DiskView) (w : StorageView) (e : DiskView) (page : ℕ) (tag : Tag) (found : PageValue) (middle after : Parts)
-    → FitAt state g v d → HasPage g tag page → GivenBack page v d w e
+    → FitAt state g v d → ShowsPage g tag page → GivenBack page v d w e
     → MayBecome (v.values page) found → Middle state later g middle page → IsRehinted middle page found after (w.values page) → FitAt later (with_parts g after) w e
 Fit-told state later g v d w e page tag found middle after f has back may mid told =
     subst (λ (q : Parts). FitAt later (with_parts g q) w e) (sym told.tables)
@@ -205,13 +210,14 @@ pub Fit-rehinted : (state : FlatState) (g : GuestState) (v : StorageView) (d : D
     → FitAt state g v d → HasPage g tag page → GivenBack page v d w e
     → MayBecome (v.values page) found → IsRehinted g.parts page found after (w.values page) → FitAt state (with_parts g after) w e
 Fit-rehinted state g v d w e page tag found after f has back may told =
-    Fit-told state state g v d w e page tag found g.parts after f has back may (record {
+    Fit-told state state g v d w e page tag found g.parts after f (has_shows state g v d page tag f has) back may (record {
       files = refl;
       only = record { free = refl; cache = refl; faults = refl };
       change = record { size = refl; here = refl; others = λ i n. refl };
       keeps = KeepsPage-refl (info_at g.parts.pages page);
       slots = f.slots;
       entries = f.entries;
+      torn = keeps_torn-same g.parts.maps g.parts.maps refl;
       pins = standing g.parts f.pins;
     })
     told

@@ -1,5 +1,5 @@
 -- What one change of a guest's tables leaves: one page's info, one place of the index, one processor's phase.
-use Rattle.std.proofs.Common.{◌≡◌, ◌≢◌, ◌⊎◌, ◌<◌, ℕ, List, length, get_or, set, Option, Some, None, refl, ap, ◌∙◌, inl, inr, arith, get_or-set_same, get_or-set_other, length-set}
+use Rattle.std.proofs.Common.{◌≡◌, ◌≢◌, ◌⊎◌, ◌<◌, ℕ, List, length, get_or, set, Option, Some, None, refl, ap, sym, ◌∙◌, inl, inr, arith, get_or-set_same, get_or-set_other, length-set}
 use Rattle.std.proofs.lemmas.Bool.{cases_eq}
 use Rattle.std.proofs.lemmas.List.Sums.{sum_by-set}
 use Rattle.std.specs.List.{sum_by}
@@ -11,8 +11,10 @@ use Rattle.guest_pages.specs.Laws.PagesLaws.{info_at-with_info_same, info_at-wit
 use Rattle.guest_cache.specs.CacheView.{CacheView, IsTag, index_place, page_of, with_page, without_page}
 use Rattle.guest_cache.specs.Laws.CacheLaws.{IsCache, page_of-with_page_same, page_of-with_page_other, page_of-without_page_same, page_of-without_page_other}
 use Rattle.guest_rules.specs.declared.processor.Phase.{Phase}
+use Rattle.guest_rules.specs.declared.processor.Phase.TheVariants.{Start, Fill, Room as AtRoom, Sync as AtSync, SyncWrite, Teardown}
 use Rattle.guest_rules.specs.declared.processor.Processor.{Processor}
 use Rattle.guest_rules.specs.GuestState.{first_processor}
+use Rattle.guest_rules.specs.Fit.{answered_early, entries_of}
 
 -- one page's info is another
 pub record InfoChange (old new : PagesView) (page : ℕ) (info : PageInfo) : Type 0 where
@@ -81,22 +83,64 @@ cases_tag (Anon slot index) (Anon slot' index') = elim (cases_eq slot slot') [
   | inr n ↦ inr (λ e. n cc)
 ]
 
--- one processor's phase is another; where they are is the same
+-- what a processor in this phase tears down: the mapping that was in a slot, at a page
+abbrev pub teardown_of : Phase → Option (ℕ × ℕ)
+teardown_of Start = None
+teardown_of (Fill page) = None
+teardown_of (AtRoom page) = None
+teardown_of (AtSync index) = None
+teardown_of (SyncWrite index page) = None
+teardown_of (Teardown slot index) = Some (slot, index)
+
+some_pair : {a b : ℕ × ℕ} → Some a ≡ Some b → a ≡ b
+some_pair e = cc
+
+pub teardown-is : (phase : Phase) (slot index : ℕ) → teardown_of phase ≡ Some (slot, index) → phase ≡ Teardown slot index
+teardown-is Start slot index e = absurd (cc e)
+teardown-is (Fill page) slot index e = absurd (cc e)
+teardown-is (AtRoom page) slot index e = absurd (cc e)
+teardown-is (AtSync at) slot index e = absurd (cc e)
+teardown-is (SyncWrite at page) slot index e = absurd (cc e)
+teardown-is (Teardown s i) slot index e = let both = some_pair e in λ k. Teardown (both k).0 (both k).1
+
+-- two phases that tear the same down
+pub same-teardown : (a b : Phase) (slot index : ℕ) → teardown_of a ≡ teardown_of b → a ≡ Teardown slot index → b ≡ Teardown slot index
+same-teardown a b slot index same is = teardown-is b slot index (sym same ∙ ap teardown_of is)
+
+abbrev early_of : Option (ℕ × ℕ) → ℕ
+early_of None = 0
+early_of (Some at) = 1
+
+answered-is : (phase : Phase) → answered_early phase ≡ early_of (teardown_of phase)
+answered-is Start = refl
+answered-is (Fill page) = refl
+answered-is (AtRoom page) = refl
+answered-is (AtSync index) = refl
+answered-is (SyncWrite index page) = refl
+answered-is (Teardown slot index) = refl
+
+-- where as much is torn down, as much is answered early
+pub same-answered : (a b : Phase) → teardown_of a ≡ teardown_of b → answered_early a ≡ answered_early b
+same-answered a b same = answered-is a ∙ ap early_of same ∙ sym (answered-is b)
+
+-- one processor's phase is another, in which it tears down what it did; where they are is the same
 pub record PhaseChange (old new : List Processor) (cpu : ℕ) (phase : Phase) : Type 0 where
   pub size : length new ≡ length old
   pub here : get_or new cpu first_processor ≡ record { place = (get_or old cpu first_processor).place; phase = phase }
   pub others : (q : ℕ) → q ≢ cpu → get_or new q first_processor ≡ get_or old q first_processor
-  pub places : sum_by (λ processor. processor.place) new ≡ sum_by (λ processor. processor.place) old
+  pub teardown : teardown_of phase ≡ teardown_of (get_or old cpu first_processor).phase
+  pub entries : sum_by entries_of new ≡ sum_by entries_of old
 
-pub change-with_phase : (old : List Processor) (cpu : ℕ) (phase : Phase) → cpu < length old
+pub change-with_phase : (old : List Processor) (cpu : ℕ) (phase : Phase) → cpu < length old → teardown_of phase ≡ teardown_of (get_or old cpu first_processor).phase
     → PhaseChange old (set old cpu (record { place = (get_or old cpu first_processor).place; phase = phase })) cpu phase
-change-with_phase old cpu phase below =
+change-with_phase old cpu phase below teardown =
     let new : Processor = record { place = (get_or old cpu first_processor).place; phase = phase } in
     record {
       size = length-set old cpu new;
       here = get_or-set_same old cpu new first_processor below;
       others = λ q other. get_or-set_other old cpu q new first_processor other;
-      places = omega (arith, sum_by-set (λ (p : Processor). p.place) old cpu new first_processor below);
+      teardown = teardown;
+      entries = omega (arith, sum_by-set entries_of old cpu new first_processor below, same-answered phase (get_or old cpu first_processor).phase teardown);
     }
 
 -- a phase that it had already
@@ -106,5 +150,6 @@ change-nothing old cpu phase e = record {
   here = ap (λ (p : Phase). let new : Processor = record { place = (get_or old cpu first_processor).place; phase = p } in new) e;
   others =
       λ q other. refl;
-  places = refl;
+  teardown = ap teardown_of (sym e);
+  entries = refl;
 }

@@ -1,5 +1,6 @@
--- The entries stay fit: where one page's info changes, where a page is freed, where an entry is set, and where a file is mapped.
-use Rattle.std.proofs.Common.{◌≡◌, ◌≢◌, ◌<◌, ◌+◌, ◌*◌, ℕ, Bool, true, false, length, slice_index_or, count_by, Option, Some, None, ap, sym, ◌∙◌, inl, inr, subst, arith}
+-- The entries stay fit: where one page's info changes, where a page is freed, where an entry is set or cleared, where a file is mapped, where
+-- a mapping ends, and where its slot is free again.
+use Rattle.std.proofs.Common.{◌≡◌, ◌≢◌, ◌<◌, ◌+◌, ◌-◌, ◌*◌, ℕ, Bool, true, false, length, slice_index_or, count_by, Option, Some, None, refl, ap, sym, ◌∙◌, inl, inr, subst, arith}
 use Rattle.std.proofs.lemmas.Bool.{cases_eq}
 use Rattle.cmm_types.specs.declared.page.Tag.{Tag}
 use Rattle.cmm_types.specs.declared.command.TheConstants.{MAX_MAPPING_PAGES}
@@ -9,14 +10,15 @@ use Rattle.guest_pages.specs.PagesView.{free_info, info_at}
 use Rattle.guest_maps.specs.declared.slot.Pte.{Pte}
 use Rattle.guest_maps.specs.declared.slot.Slot.{Slot}
 use Rattle.guest_maps.specs.declared.slot.Shown.{Shown}
-use Rattle.guest_maps.specs.MapsView.{MapsView, slot_at, entry_at, place_at, tag_in, tag_at, slot_has_page, stores_to, with_entry, without_entries_of, with_slot, with_slot_mapped, one_if}
-use Rattle.guest_maps.specs.Laws.MapsLaws.{entry_place_exact, slots-with_entry, entry_at-with_entry_other, slots-without_entries_of, writers_showing-without_same, writers_showing-without_other, slot_at-with_mapping_other}
+use Rattle.guest_maps.specs.MapsView.{MapsView, slot_at, entry_at, place_at, tag_in, tag_at, slot_has_page, stores_to, with_entry, without_entries_of, with_slot, with_slot_mapped, torn, torn_slot, freed_slot, one_if}
+use Rattle.guest_maps.specs.Laws.MapsLaws.{entry_place_exact, slots-with_entry, entry_at-with_entry_other, slots-without_entries_of, writers_showing-without_same, writers_showing-without_other, slot_at-with_mapping_other, entries-torn_slot, entry_at-torn_slot}
+use Rattle.guest_maps.specs.Laws.TornLaws.{same-torn_slot, tag_at-torn_slot, place-torn_slot, entries-freed_slot, slot_at-freed_slot_other}
 use Rattle.guest_rules.specs.declared.parts.Parts.{Parts}
 use Rattle.guest_rules.specs.Turns.{slot_writable}
 use Rattle.guest_rules.specs.Fit.{IsEntry, EntriesFit}
 use Rattle.guest_rules.proofs.Cases.TurnCases.{CanBeSet}
 use Rattle.guest_rules.proofs.Kept.Changes.{InfoChange}
-use Rattle.guest_rules.proofs.Kept.EntryLaws.{place-tagged, entry-without, entry_at-set, writers-with_entry_same, writers-with_entry_other}
+use Rattle.guest_rules.proofs.Kept.EntryLaws.{place-tagged, entry-without, entry_at-set, writers-with_entry_same, writers-with_entry_other, writers-cleared_same, writers-cleared_other}
 
 -- a page that is up to date under a tag is so still
 abbrev pub StillShown : Parts → Parts → ℕ → Type 0
@@ -157,3 +159,83 @@ EntriesFit-new old new slot process number count shown f free is = rw is (record
       IsEntry-kept old _ s i pte was (slot_at-with_mapping_other old.maps slot s process number shown count n) (λ tag t u. (t, u));
   writers = f.writers;
 })
+
+-- ---- an entry is cleared
+
+-- an entry that is set, at a place of the tables
+pub record HasEntry (old : Parts) (slot index : ℕ) (pte : Pte) : Type 0 where
+  pub slot_below : slot < MAX_MAPPING_SLOTS
+  pub index_below : index < MAX_MAPPING_PAGES
+  pub size : length old.maps.entries ≡ MAX_MAPPING_SLOTS * MAX_MAPPING_PAGES
+  pub set : entry_at old.maps slot index ≡ Some pte
+
+pub has_entry-within : (old : Parts) (slot index : ℕ) (pte : Pte) → HasEntry old slot index pte → place_at slot index < length old.maps.entries
+has_entry-within old slot index pte k = rw k.size (omega (arith, k.slot_below, k.index_below))
+
+-- the page that it showed has one writer less where it allowed stores
+pub EntriesFit-unmapped : (old new : Parts) (slot index : ℕ) (pte : Pte) → EntriesFit old → HasEntry old slot index pte
+    → InfoChange old.pages new.pages pte.page (record (info_at old.pages pte.page) { writers = (info_at old.pages pte.page).writers - one_if pte.writable })
+    → new.maps ≡ with_entry old.maps slot index None → EntriesFit new
+EntriesFit-unmapped old new slot index pte f k change maps = record {
+  entry = λ s i p lt e. elim (cases_eq s slot) [
+    | inl z ↦ elim (cases_eq i index) [
+      | inl y ↦
+          let bad : None ≡ Some p = sym (entry_at-set old.maps slot index None below) ∙ ap (λ m. entry_at m slot index) (sym maps) ∙ (λ q. entry_at new.maps (sym z q) (sym y q)) ∙ e in absurd cc
+      | inr m ↦ left s i p lt (λ q. m (entry_place_exact s slot i index lt k.index_below q).1) e
+    ]
+    | inr m ↦ left s i p lt (λ q. m (entry_place_exact s slot i index lt k.index_below q).0) e
+  ];
+  writers = λ i. elim (cases_eq i pte.page) [
+    | inl z ↦ rw (z, change.here, maps) (fewer _ _ _ _ (f.writers pte.page) (writers-cleared_same old.maps slot index pte below k.set))
+    | inr n ↦ rw (change.others i n, maps) (f.writers i ∙ sym (writers-cleared_other old.maps slot index i pte below k.set n))
+  ];
+}
+  where
+    fewer : (counted showing now one : ℕ) → counted ≡ showing → now + one ≡ showing → counted - one ≡ now
+    fewer counted showing now one is less = omega (arith, is, less)
+
+    below : place_at slot index < length old.maps.entries
+    below = has_entry-within old slot index pte k
+
+    same : (s : ℕ) → slot_at new.maps s ≡ slot_at old.maps s
+    same s = ap (λ (m : MapsView). slot_at m s) maps ∙ ap (λ xs. slot_at (record old.maps { slots = xs }) s) (slots-with_entry old.maps slot index None)
+
+    shows : (i : ℕ) → StillShown old new i
+    shows = still_shown old new pte.page (record (info_at old.pages pte.page) { writers = (info_at old.pages pte.page).writers - one_if pte.writable }) change (λ t a u. (a, u))
+
+    left : (s i : ℕ) (p : Pte) → i < MAX_MAPPING_PAGES → place_at s i ≢ place_at slot index → entry_at new.maps s i ≡ Some p → IsEntry new s i p
+    left s i p lt apart e =
+        IsEntry-kept old new s i p (f.entry s i p lt (sym (entry_at-with_entry_other old.maps slot index s i None apart) ∙ ap (λ m. entry_at m s i) (sym maps) ∙ e)) (same s) (shows p.page)
+
+-- ---- a mapping ends
+
+-- its entries stay until they are cleared
+pub EntriesFit-torn : (old : Parts) (slot : ℕ) → EntriesFit old → slot < length old.maps.slots → EntriesFit (record old { maps = torn_slot old.maps slot })
+EntriesFit-torn old slot f below = record {
+  entry = λ s i pte lt e.
+      let was = f.entry s i pte lt (sym (entry_at-torn_slot old.maps slot s i) ∙ e) in
+      record {
+        place = place-torn_slot old.maps slot s i below ∙ was.place;
+        tag = was.tag;
+        mapped = tag_at-torn_slot old.maps slot s i below ∙ was.mapped;
+        tagged = was.tagged;
+        uptodate = was.uptodate;
+        writable = λ w. same-torn_slot slot_writable old.maps slot s below torn_writable ∙ was.writable w;
+      };
+  writers = λ i. f.writers i ∙ ap (λ xs. count_by (stores_to i) xs) (sym (entries-torn_slot old.maps slot));
+}
+  where
+    torn_writable : (o : Option Slot) → slot_writable (torn o) ≡ slot_writable o
+    torn_writable None = refl
+    torn_writable (Some mapping) = refl
+
+-- its slot is free, once none is left
+pub EntriesFit-freed_slot : (old : Parts) (slot : ℕ) → EntriesFit old → ((index : ℕ) → index < MAX_MAPPING_PAGES → entry_at old.maps slot index ≡ None)
+    → EntriesFit (record old { maps = freed_slot old.maps slot })
+EntriesFit-freed_slot old slot f none = record {
+  entry = λ s i pte lt e.
+      let there : entry_at old.maps s i ≡ Some pte = ap (λ xs. slice_index_or xs (place_at s i) None) (sym (entries-freed_slot old.maps slot)) ∙ e in
+      let n : s ≢ slot = λ z. (let bad : None ≡ Some pte = sym (none i lt) ∙ ap (λ x. entry_at old.maps x i) (sym z) ∙ there in cc) in
+      IsEntry-kept old _ s i pte (f.entry s i pte lt there) (slot_at-freed_slot_other old.maps slot s n) (λ tag t u. (t, u));
+  writers = λ i. f.writers i ∙ ap (λ xs. count_by (stores_to i) xs) (sym (entries-freed_slot old.maps slot));
+}

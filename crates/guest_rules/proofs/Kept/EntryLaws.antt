@@ -93,3 +93,22 @@ writers-with_entry_other maps slot index page i writes below can n =
 -- a page that an entry allows stores to has a writer
 pub some_writer : (maps : MapsView) (slot index page : ℕ) → entry_at maps slot index ≡ Some (record { page = page; writable = true }) → 1 ≤ writers_showing maps page
 some_writer maps slot index page e = count_by-positive (stores_to page) maps.entries (place_at slot index) refl (ap (stores_to page) e ∙ same_number page)
+
+-- ---- an entry is cleared
+
+-- the page that it showed has one writer less where it allowed stores
+pub writers-cleared_same : (maps : MapsView) (slot index : ℕ) (pte : Pte) → place_at slot index < length maps.entries → entry_at maps slot index ≡ Some pte
+    → writers_showing (with_entry maps slot index None) pte.page + one_if pte.writable ≡ writers_showing maps pte.page
+unfolding with_entry
+writers-cleared_same maps slot index pte below e =
+    let moved = count_by-set (stores_to pte.page) maps.entries (place_at slot index) None below in
+    let old : one_where (stores_to pte.page (entry_at maps slot index)) ≡ one_if pte.writable = ap (λ o. one_where (stores_to pte.page o)) e ∙ stores_here pte.page pte.writable in
+    omega (arith, moved, old)
+
+pub writers-cleared_other : (maps : MapsView) (slot index i : ℕ) (pte : Pte) → place_at slot index < length maps.entries → entry_at maps slot index ≡ Some pte → i ≢ pte.page
+    → writers_showing (with_entry maps slot index None) i ≡ writers_showing maps i
+unfolding with_entry
+writers-cleared_other maps slot index i pte below e n =
+    let moved = count_by-set (stores_to i) maps.entries (place_at slot index) None below in
+    let old : one_where (stores_to i (entry_at maps slot index)) ≡ 0 = ap (λ o. one_where (stores_to i o)) e ∙ ap one_where (stores_elsewhere pte.page i pte.writable n) in
+    omega (arith, moved, old)

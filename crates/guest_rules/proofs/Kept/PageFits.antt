@@ -1,5 +1,5 @@
 -- What fit says of one page, its info and its value; what the host may do leaves it.
-use Rattle.std.proofs.Common.{◌≡◌, ◌<◌, ℕ, true, false, List, length, Some, None, refl, ap, sym, ◌∙◌, inl, inr, arith, subst}
+use Rattle.std.proofs.Common.{◌≡◌, ◌<◌, ◌+◌, ℕ, true, false, List, length, Some, None, ap, sym, ◌∙◌, inl, inr, arith, subst}
 use Rattle.std.proofs.lemmas.List.{get_or_past}
 use Rattle.std.proofs.lemmas.Bool.{cases_lt}
 use Rattle.cmm_types.specs.declared.page.Usage.TheVariants.{U, V}
@@ -12,7 +12,7 @@ use Rattle.cmm_storage.specs.StorageView.{StorageView}
 use Rattle.guest_pages.specs.declared.info.PageInfo.{PageInfo}
 use Rattle.guest_pages.specs.PagesView.{PagesView, free_info, info_at}
 use Rattle.std.specs.List.{position}
-use Rattle.guest_cache.specs.CacheView.{CacheView, holds_page, swap_block}
+use Rattle.guest_cache.specs.CacheView.{CacheView, pages_before, holds_page, swap_block, backing_of}
 use Rattle.guest_rules.specs.declared.parts.Parts.{Parts}
 use Rattle.guest_rules.specs.Hint.{hint}
 use Rattle.guest_rules.specs.Fit.{PinsFit, HintsFit, ContentsFit, backed, backing}
@@ -52,10 +52,14 @@ PageFits-may cache d info x y s may = record {
     bytes tag t u clean unchanged (inr (inl lost)) there = let bad : true ≡ false = ap (λ (z : PageValue). is_lost z.contents) (sym lost.value) ∙ there in absurd cc
     bytes tag t u clean unchanged (inr (inr other)) there = absurd (tagged tag t other.unused)
 
--- what backs a tag depends on the files, the swap slots and the blocks
+-- a tag's block depends on the files and the swap slots
+pub backing_of-same : (old new : CacheView) (tag : Tag) → new.files ≡ old.files → new.swap ≡ old.swap → backing_of new tag ≡ backing_of old tag
+backing_of-same old new (File file index) files swap = ap (λ (f : List ℕ). Some (pages_before f file + index)) files
+backing_of-same old new (Anon slot index) files swap = λ i. swap_block (files i) (position (holds_page slot index) (swap i))
+
+-- what backs a tag depends on its block, too, and on the blocks' bytes
 pub backing-same : (old new : CacheView) (d e : DiskView) (tag : Tag) → new.files ≡ old.files → new.swap ≡ old.swap → e.blocks ≡ d.blocks → backing new e tag ≡ backing old d tag
-backing-same old new d e (File file index) files swap blocks = rw (files, blocks) refl
-backing-same old new d e (Anon slot index) files swap blocks = λ i. backed (blocks i) (swap_block (files i) (position (holds_page slot index) (swap i)))
+backing-same old new d e tag files swap blocks = ap (λ o. backed e.blocks o) (backing_of-same old new tag files swap) ∙ ap (λ o. backed o (backing_of old tag)) blocks
 
 pub PageFits-same : (old new : CacheView) (d e : DiskView) (info : PageInfo) (x : PageValue) → new.files ≡ old.files → new.swap ≡ old.swap → e.blocks ≡ d.blocks → PageFits old d info x
     → PageFits new e info x

@@ -120,7 +120,7 @@ same_tag-is (Anon slot index) (Anon other at) e =
     let slots = eqb-true slot other k.0 in
     let indexes = eqb-true index at k.1 in λ i. Anon (slots i) (indexes i)
 
-is_tag_of-is : (o : Option Tag) (tag : Tag) → is_tag_of o tag ≡ true → o ≡ Some tag
+pub is_tag_of-is : (o : Option Tag) (tag : Tag) → is_tag_of o tag ≡ true → o ≡ Some tag
 is_tag_of-is None tag e = let bad : false ≡ true = e in absurd cc
 is_tag_of-is (Some its) tag e = ap Some (same_tag-is its tag e)
 

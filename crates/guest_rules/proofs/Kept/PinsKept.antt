@@ -1,5 +1,5 @@
--- The pins stay fit: where one page's info changes, where a page is freed or gets a tag, where a place is pinned or unpinned, and where a
--- file is mapped.
+-- The pins stay fit: where one page's info changes, where a page is freed or gets a tag, where a place is pinned or unpinned, where a file is
+-- mapped, where a mapping ends, and where its slot is free again.
 use Rattle.std.proofs.Common.{◌≡◌, ◌≢◌, ◌<◌, ◌+◌, ℕ, Bool, true, false, not, length, slice_index_or, Some, None, refl, ap, sym, ◌∙◌, inl, inr, arith}
 use Rattle.std.proofs.lemmas.Bool.{cases_eq}
 use Rattle.cmm_types.specs.declared.page.Tag.{Tag}
@@ -12,8 +12,9 @@ use Rattle.guest_pages.specs.declared.info.PageInfo.{PageInfo}
 use Rattle.guest_pages.specs.PagesView.{free_info, info_at}
 use Rattle.guest_cache.specs.CacheView.{CacheView, IsTag, page_of}
 use Rattle.guest_maps.specs.declared.slot.Shown.{Shown}
-use Rattle.guest_maps.specs.MapsView.{MapsView, IsPlace, slot_at, slot_has_page, place_at, pinned_at, tag_in, tag_at, with_slot, with_slot_mapped}
-use Rattle.guest_maps.specs.Laws.MapsLaws.{slot_at-with_mapping_other, length-with_mapping}
+use Rattle.guest_maps.specs.MapsView.{MapsView, IsPlace, slot_at, slot_has_page, place_at, pinned_at, tag_in, tag_at, with_slot, with_slot_mapped, torn_slot, freed_slot}
+use Rattle.guest_maps.specs.Laws.MapsLaws.{slot_at-with_mapping_other, length-with_mapping, length-torn_slot, length-freed_slot}
+use Rattle.guest_maps.specs.Laws.TornLaws.{pinned-torn_slot, tag_at-torn_slot, pinned-freed_slot, slot_at-freed_slot_other}
 use Rattle.guest_rules.specs.declared.parts.Parts.{Parts}
 use Rattle.guest_rules.specs.Rows.{pins_after}
 use Rattle.guest_rules.specs.Fit.{PagesFit, SlotsFit, PinsFit, IsKept, pin_on, pins_within, pins_on}
@@ -278,4 +279,52 @@ PinsFit-new state old new slot process number count shown f slots free is = rw i
     each tag s i below = elim (cases_eq s slot) [
       | inl z ↦ pin_on-none now tag s i (λ p _. apart s i below p z) ∙ sym (pin_on-none old.maps tag s i (λ p _. apart s i below p z))
       | inr n ↦ pin_on-same old.maps now tag s i refl (ap (λ o. tag_in o s i) (slot_at-with_mapping_other old.maps slot s process number shown count n))
+    ]
+
+-- ---- a mapping ends
+
+-- what its places map, and which are pinned, stays
+pub PinsFit-torn : (old : Parts) (slot : ℕ) → PinsFit old → slot < length old.maps.slots → PinsFit (record old { maps = torn_slot old.maps slot })
+PinsFit-torn old slot f within = record {
+  counted = λ page tag e. f.counted page tag e ∙ sym (ap (λ n. pins_within now tag n MAX_MAPPING_PAGES) (length-torn_slot old.maps slot)
+      ∙ pins_within-same old.maps now tag (length old.maps.slots) MAX_MAPPING_PAGES (λ s i _ _. pin_on-same old.maps now tag s i (pins s i) (tag_at-torn_slot old.maps slot s i within)));
+  kept = λ s i tag below p m.
+      let k = f.kept s i tag below (sym (pins s i) ∙ p) (sym (tag_at-torn_slot old.maps slot s i within) ∙ m) in record { page = k.page; there = k.there; uptodate = k.uptodate };
+  of_files = f.of_files;
+}
+  where
+    now : MapsView
+    now = torn_slot old.maps slot
+
+    pins : (s i : ℕ) → pinned_at now s i ≡ pinned_at old.maps s i
+    pins s i = ap (λ xs. slice_index_or xs (place_at s i) false) (pinned-torn_slot old.maps slot)
+
+-- its slot is free, where none of its pages is pinned
+pub PinsFit-freed_slot : (old : Parts) (slot : ℕ) → PinsFit old → ((index : ℕ) → index < MAX_MAPPING_PAGES → pinned_at old.maps slot index ≡ false)
+    → PinsFit (record old { maps = freed_slot old.maps slot })
+PinsFit-freed_slot old slot f unpinned = record {
+  counted = λ page tag e. f.counted page tag e ∙ sym (ap (λ n. pins_within now tag n MAX_MAPPING_PAGES) (length-freed_slot old.maps slot)
+      ∙ pins_within-same old.maps now tag (length old.maps.slots) MAX_MAPPING_PAGES (λ s i _ below. each tag s i below));
+  kept = λ s i tag below p m.
+      let was : pinned_at old.maps s i ≡ true = sym (pins s i) ∙ p in
+      let k = f.kept s i tag below was (sym (ap (λ o. tag_in o s i) (slot_at-freed_slot_other old.maps slot s (apart s i below was))) ∙ m) in
+      record { page = k.page; there = k.there; uptodate = k.uptodate };
+  of_files = f.of_files;
+}
+  where
+    now : MapsView
+    now = freed_slot old.maps slot
+
+    pins : (s i : ℕ) → pinned_at now s i ≡ pinned_at old.maps s i
+    pins s i = ap (λ xs. slice_index_or xs (place_at s i) false) (pinned-freed_slot old.maps slot)
+
+    apart : (s i : ℕ) → i < MAX_MAPPING_PAGES → pinned_at old.maps s i ≡ true → s ≢ slot
+    apart s i below p z = let bad : false ≡ true = sym (unpinned i below) ∙ ap (λ x. pinned_at old.maps x i) (sym z) ∙ p in cc
+
+    each : (tag : Tag) (s i : ℕ) → i < MAX_MAPPING_PAGES → pin_on now tag s i ≡ pin_on old.maps tag s i
+    each tag s i below = elim (cases_eq s slot) [
+      | inl z ↦
+          pin_on-none now tag s i (λ p _. apart s i below (sym (pins s i) ∙ p) z)
+          ∙ sym (pin_on-none old.maps tag s i (λ p _. apart s i below p z))
+      | inr n ↦ pin_on-same old.maps now tag s i (pins s i) (ap (λ o. tag_in o s i) (slot_at-freed_slot_other old.maps slot s n))
     ]

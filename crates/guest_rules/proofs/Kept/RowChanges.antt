@@ -1,12 +1,13 @@
--- What each change of the tables leaves: a page begun, handled after a discard, freed after a failure, filled, found changed, shown by an entry, pinned or unpinned.
-use Rattle.std.proofs.Common.{◌≡◌, ◌<◌, ◌+◌, ℕ, Bool, true, false, ◌∷◌, drop, length, Some, None, refl, ap, ◌∙◌}
+-- What each change of the tables leaves: a page begun, handled after a discard, freed after a failure, filled, found changed, shown by an entry or not any more, pinned or unpinned.
+use Rattle.std.proofs.Common.{◌≡◌, ◌<◌, ◌+◌, ◌-◌, ℕ, Bool, true, false, ◌∷◌, drop, length, Some, None, refl, ap, ◌∙◌}
 use Rattle.cmm_types.specs.declared.page.Tag.{Tag}
 use Rattle.guest_pages.specs.declared.info.PageInfo.{PageInfo}
 use Rattle.guest_pages.specs.PagesView.{PagesView, info_at, free_info, with_info, with_owner, with_uptodate, with_dirty, with_pins, with_writers, popped, pushed}
 use Rattle.guest_cache.specs.CacheView.{without_page}
 use Rattle.guest_rules.specs.declared.parts.Parts.{Parts}
+use Rattle.guest_maps.specs.declared.slot.Pte.{Pte}
 use Rattle.guest_maps.specs.MapsView.{with_entry, without_entries_of, with_pinned, one_if}
-use Rattle.guest_rules.specs.Rows.{freed, handled, filled, with_change, mapped, pinned, pins_after}
+use Rattle.guest_rules.specs.Rows.{freed, handled, filled, with_change, mapped, unmapped, pinned, pins_after}
 use Rattle.guest_rules.specs.Turns.{begun}
 use Rattle.guest_rules.proofs.Kept.Changes.{InfoChange, change-with_info, InfoChange-trans}
 
@@ -123,6 +124,23 @@ pub maps-mapped : (parts : Parts) (page slot index : ℕ) (writes : Bool)
     → (mapped parts page slot index writes).maps ≡ with_entry parts.maps slot index (Some (record { page = page; writable = writes }))
 unfolding mapped
 maps-mapped parts page slot index writes = refl
+
+-- one entry less shows the page
+abbrev pub unshown_info : Bool → PageInfo → PageInfo
+unshown_info writable info = record info { writers = info.writers - one_if writable }
+
+pub change-unmapped : (parts : Parts) (slot index : ℕ) (pte : Pte) → pte.page < length parts.pages.infos
+    → InfoChange parts.pages (unmapped parts slot index pte).pages pte.page (unshown_info pte.writable (info_at parts.pages pte.page))
+unfolding unmapped with_writers
+change-unmapped parts slot index pte below = change-with_info parts.pages pte.page (unshown_info pte.writable (info_at parts.pages pte.page)) below
+
+pub only-unmapped : (parts : Parts) (slot index : ℕ) (pte : Pte) → OnlyPages parts (unmapped parts slot index pte)
+unfolding unmapped with_writers with_info
+only-unmapped parts slot index pte = record { free = refl; cache = refl; faults = refl }
+
+pub maps-unmapped : (parts : Parts) (slot index : ℕ) (pte : Pte) → (unmapped parts slot index pte).maps ≡ with_entry parts.maps slot index None
+unfolding unmapped
+maps-unmapped parts slot index pte = refl
 
 -- one place more that maps the page's tag is pinned, or one less
 abbrev pub pinned_info : (pins : Bool) → PageInfo → PageInfo

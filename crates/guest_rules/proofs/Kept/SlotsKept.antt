@@ -1,5 +1,6 @@
--- The mapping slots stay fit: where they are the same, where a file is mapped in a free one, and where a page is pinned or unpinned.
-use Rattle.std.proofs.Common.{◌≡◌, ◌≢◌, ◌<◌, ◌≤◌, ◌+◌, ℕ, Bool, true, false, cond, List, length, slice_index_or, Option, Some, None, is_some, refl, ap, sym, ◌∙◌, inl, inr, position, nat_lt, arith}
+-- The mapping slots stay fit: where they are the same, where a file is mapped in a free one, where a page is pinned or unpinned, where a
+-- mapping ends, and where its slot is free again.
+use Rattle.std.proofs.Common.{◌≡◌, ◌≢◌, ◌<◌, ◌≤◌, ◌+◌, ◌-◌, ℕ, Bool, true, false, cond, List, length, slice_index_or, Option, Some, None, is_some, refl, ap, sym, ◌∙◌, inl, inr, position, nat_lt, arith}
 use Rattle.std.specs.FinMap as finite
 use Rattle.std.proofs.lemmas.Bool.{cases_eq, cases_lt, false_from_ne_true, ltb-true}
 use Rattle.std.proofs.lemmas.Bool.Decides.{nat_tests}
@@ -11,18 +12,19 @@ use Rattle.cmm_flat.specs.declared.mapping.Shown.TheVariants.{OfFile as FlatFile
 use Rattle.cmm_flat.specs.Mapping.{with_pin}
 use Rattle.cmm_flat.specs.Laws.PlaceLaws.{places_total}
 use Rattle.cmm_flat.specs.State.{FlatState, mapping_at, place_of}
-use Rattle.cmm_flat.specs.Flat.{none_pinned, with_mapping as flat_with_mapping}
-use Rattle.cmm_flat.specs.Laws.StepLaws.{mapping_at-with_mapping, mapping_at-with_mapping_other}
+use Rattle.cmm_flat.specs.Flat.{none_pinned, with_mapping as flat_with_mapping, without_mapping}
+use Rattle.cmm_flat.specs.Laws.StepLaws.{mapping_at-with_mapping, mapping_at-with_mapping_other, mapping_at-without_mapping, mapping_at-without_mapping_other}
 use Rattle.guest_maps.specs.declared.slot.Slot.{Slot}
 use Rattle.guest_maps.specs.declared.slot.Shown.{Shown}
 use Rattle.guest_maps.specs.declared.slot.Shown.TheVariants.{File as OfFile}
-use Rattle.guest_maps.specs.MapsView.{MapsView, IsPlace, slot_at, find_slot, free_slot, live_slots, is_mapping, slot_has_page, place_at, pinned_at, new_mapping, with_slot_mapped}
+use Rattle.guest_maps.specs.MapsView.{MapsView, IsPlace, slot_at, find_slot, free_slot, live_slots, is_live_slot, is_mapping, slot_has_page, place_at, pinned_at, new_mapping, torn, with_slot_mapped, torn_slot, freed_slot}
 use Rattle.guest_maps.specs.FirstPlace.{position_only}
-use Rattle.guest_maps.specs.Laws.SlotLaws.{own_mapping}
-use Rattle.guest_maps.specs.Laws.MapsLaws.{IsPlace-from, free_slot-is, find_slot-is, find_slot-none, length-with_mapping, entries-with_mapping, pinned-with_mapping, pages-with_mapping, slot_at-with_mapping_same, slot_at-with_mapping_other, find_slot-with_mapping_other, live_slots-with_mapping}
+use Rattle.guest_maps.specs.Laws.SlotLaws.{own_mapping, other_mapping, mapping_is}
+use Rattle.guest_maps.specs.Laws.MapsLaws.{IsPlace-from, free_slot-is, find_slot-is, find_slot-none, length-with_mapping, entries-with_mapping, pinned-with_mapping, pages-with_mapping, slot_at-with_mapping_same, slot_at-with_mapping_other, find_slot-with_mapping_other, live_slots-with_mapping, length-torn_slot, entries-torn_slot, slot_at-torn_slot_same, length-freed_slot}
+use Rattle.guest_maps.specs.Laws.TornLaws.{pinned-torn_slot, pages-torn_slot, slot_at-torn_slot_other, place-torn_slot, find_slot-torn_slot_same, find_slot-torn_slot_other, live_slots-torn_slot, entries-freed_slot, pinned-freed_slot, pages-freed_slot, slot_at-freed_slot_same, slot_at-freed_slot_other, find_slot-freed_slot, live_slots-freed_slot}
 use Rattle.guest_rules.specs.declared.parts.Parts.{Parts}
 use Rattle.guest_rules.specs.Fit.{SlotsFit, pins_of, flat_shown, flat_slot, flat_mapping, flat_found}
-use Rattle.guest_rules.proofs.Cases.MapsFound.{found_slot}
+use Rattle.guest_rules.proofs.Cases.MapsFound.{IsFoundSlot, found_slot}
 use Rattle.guest_rules.proofs.Cases.Placed.{PinPlace}
 use Rattle.guest_rules.proofs.Kept.PinLaws.{PinChange, pins_of-same, pins_of-none, pins_of-set}
 
@@ -57,10 +59,10 @@ SlotsFit-kept state later old new f mappings slots entries pinned pages infos fi
   entries = entries ∙ f.entries;
   pinned = ap length pinned ∙ f.pinned;
   pages = pages ∙ f.pages ∙ sym infos;
-  live = λ slot mapping e. f.live slot mapping (rw slots at e);
-  apart = λ slot other mapping another e e' process number. f.apart slot other mapping another (rw slots at e) (rw slots at e') process number;
+  apart = λ slot other mapping another e e'. f.apart slot other mapping another (rw slots at e) (rw slots at e');
   flat = λ process number. ap (λ m. finite.get m (place_of process number)) mappings ∙ f.flat process number ∙ sym (found process number);
   counted = ap (λ m. finite.len m) mappings ∙ f.counted ∙ ap (λ xs. of_live xs) (sym slots);
+  some = λ slot mapping e. f.some slot mapping (rw slots at e);
   shown = λ slot mapping e. let k = f.shown slot mapping (rw slots at e) in (k.0, rw files k.1);
   placed = λ slot index below e.
       ap (λ xs. slot_has_page (slice_index_or xs slot None) index) slots ∙ f.placed slot index below (ap (λ xs. slice_index_or xs (place_at slot index) false) (sym pinned) ∙ e);
@@ -81,6 +83,7 @@ SlotsFit-kept state later old new f mappings slots entries pinned pages infos fi
 pub record NewMapping (old : Parts) (slot process number file first count : ℕ) : Type 0 where
   pub free : free_slot old.maps ≡ Some slot
   pub none : find_slot old.maps process number ≡ None
+  pub some : 1 ≤ count
   pub few : count ≤ MAX_MAPPING_PAGES
   pub file_below : file < length old.cache.files
   pub within : first + count ≤ slice_index_or old.cache.files file 0
@@ -96,22 +99,18 @@ SlotsFit-mapped state old new slot process number file first count writable f k 
   entries = ap length (entries-with_mapping old.maps slot process number shown count) ∙ f.entries;
   pinned = ap length pinned ∙ f.pinned;
   pages = pages-with_mapping old.maps slot process number shown count ∙ f.pages;
-  live = λ s mapping e. elim (cases_eq s slot) [
-    | inl z ↦ ap (λ (m : Slot). m.live) (sym (here s mapping z e))
-    | inr n ↦ f.live s mapping (sym (there s n) ∙ e)
-  ];
-  apart = λ s o mapping another e e' p q. elim (cases_eq s slot) [
+  apart = λ s o mapping another e e' live live' p q. elim (cases_eq s slot) [
     | inl z ↦ elim (cases_eq o slot) [
       | inl y ↦ z ∙ sym y
       | inr m ↦
           let its = here s mapping z e in
-          absurd (taken o another (sym (there o m) ∙ e') (sym p ∙ ap (λ (x : Slot). x.process) (sym its)) (sym q ∙ ap (λ (x : Slot). x.map) (sym its)))
+          absurd (taken o another (sym (there o m) ∙ e') live' (sym p ∙ ap (λ (x : Slot). x.process) (sym its)) (sym q ∙ ap (λ (x : Slot). x.map) (sym its)))
     ]
     | inr n ↦ elim (cases_eq o slot) [
       | inl y ↦
           let its = here o another y e' in
-          absurd (taken s mapping (sym (there s n) ∙ e) (p ∙ ap (λ (x : Slot). x.process) (sym its)) (q ∙ ap (λ (x : Slot). x.map) (sym its)))
-      | inr m ↦ f.apart s o mapping another (sym (there s n) ∙ e) (sym (there o m) ∙ e') p q
+          absurd (taken s mapping (sym (there s n) ∙ e) live (p ∙ ap (λ (x : Slot). x.process) (sym its)) (q ∙ ap (λ (x : Slot). x.map) (sym its)))
+      | inr m ↦ f.apart s o mapping another (sym (there s n) ∙ e) (sym (there o m) ∙ e') live live' p q
     ]
   ];
   flat = λ p n. elim (cases_eq p process) [
@@ -124,6 +123,10 @@ SlotsFit-mapped state old new slot process number file first count writable f k 
     | inr m ↦ other p n (λ q r. m (sym q))
   ];
   counted = len_more ∙ ap (λ n. n + 1) f.counted ∙ sym (live_slots-with_mapping old.maps slot process number shown count below free);
+  some = λ s mapping e. elim (cases_eq s slot) [
+    | inl z ↦ let its = here s mapping z e in rw (← its) k.some
+    | inr n ↦ f.some s mapping (sym (there s n) ∙ e)
+  ];
   shown = λ s mapping e. elim (cases_eq s slot) [
     | inl z ↦ let its = here s mapping z e in rw (← its) (k.few, (file, first, writable, refl, k.file_below, k.within))
     | inr n ↦ f.shown s mapping (sym (there s n) ∙ e)
@@ -178,9 +181,9 @@ SlotsFit-mapped state old new slot process number file first count writable f k 
         some_exact e = cc
 
     -- no other slot has the mapping's number
-    taken : (s : ℕ) (m : Slot) → slot_at old.maps s ≡ Some m → m.process ≡ process → m.map ≡ number → ⊥
-    taken s m e p n =
-        let yes : is_mapping process number (Some m) ≡ true = ap (λ q. is_mapping q number (Some m)) (sym p) ∙ ap (λ q. is_mapping m.process q (Some m)) (sym n) ∙ own_mapping m (f.live s m e) in
+    taken : (s : ℕ) (m : Slot) → slot_at old.maps s ≡ Some m → m.live ≡ true → m.process ≡ process → m.map ≡ number → ⊥
+    taken s m e live p n =
+        let yes : is_mapping process number (Some m) ≡ true = ap (λ q. is_mapping q number (Some m)) (sym p) ∙ ap (λ q. is_mapping m.process q (Some m)) (sym n) ∙ own_mapping m live in
         let bad : true ≡ false = sym yes ∙ ap (is_mapping process number) (sym e) ∙ find_slot-none old.maps process number k.none s in absurd cc
 
     found_here : find_slot now process number ≡ Some slot
@@ -228,8 +231,7 @@ SlotsFit-pinned state old new process number slot index pins f k change infos fi
   entries = ap length change.entries ∙ f.entries;
   pinned = change.size ∙ f.pinned;
   pages = change.pages ∙ f.pages ∙ sym infos;
-  live = λ s mapping e. f.live s mapping (rw slots at e);
-  apart = λ s o mapping another e e' p n. f.apart s o mapping another (rw slots at e) (rw slots at e') p n;
+  apart = λ s o mapping another e e'. f.apart s o mapping another (rw slots at e) (rw slots at e');
   flat = λ p n. elim (cases_eq p process) [
     | inl z ↦ elim (cases_eq n number) [
       | inl y ↦ rw (z, y) (mapping_at-with_mapping state process number mine ∙ sym here)
@@ -242,6 +244,7 @@ SlotsFit-pinned state old new process number slot index pins f k change infos fi
       ∙ ap (λ (o : Option Mapping). cond (is_some o) (finite.len state.mappings) (finite.len state.mappings + 1)) was
       ∙ f.counted
       ∙ ap (λ xs. of_live xs) (sym slots);
+  some = λ s mapping e. f.some s mapping (rw slots at e);
   shown = λ s mapping e. let its = f.shown s mapping (rw slots at e) in (its.0, rw files its.1);
   placed = λ s i lt e. placed s i lt e;
 }
@@ -300,3 +303,141 @@ SlotsFit-pinned state old new process number slot index pins f k change infos fi
       ]
       | inr n ↦ f.placed s i lt (sym (change.others s i lt (λ q r. n q)) ∙ e)
     ])
+
+-- ---- a mapping ends
+
+some_slot : {a b : Slot} → Some a ≡ Some b → a ≡ b
+some_slot e = cc
+
+-- nothing of another slot changes
+flat_other : (old new : MapsView) (slot : ℕ) (o : Option ℕ) → ((s : ℕ) → s ≢ slot → slot_at new s ≡ slot_at old s) → ((s index : ℕ) → pinned_at new s index ≡ pinned_at old s index)
+    → ((s : ℕ) → o ≡ Some s → s ≢ slot) → flat_found new o ≡ flat_found old o
+flat_other old new slot None there pins apart = refl
+flat_other old new slot (Some s) there pins apart = flat_mapping-same old new s (there s (apart s refl)) (λ index _. pins s index)
+
+-- a mapping is not found any more, and its slot is being torn down
+pub SlotsFit-torn : (state : FlatState) (old : Parts) (slot process number : ℕ) → SlotsFit state old → find_slot old.maps process number ≡ Some slot
+    → SlotsFit (without_mapping state process number) (record old { maps = torn_slot old.maps slot })
+SlotsFit-torn state old slot process number f found = record {
+  slots = length-torn_slot old.maps slot ∙ f.slots;
+  entries = ap length (entries-torn_slot old.maps slot) ∙ f.entries;
+  pinned = ap length (pinned-torn_slot old.maps slot) ∙ f.pinned;
+  pages = pages-torn_slot old.maps slot ∙ f.pages;
+  apart = λ s o mapping another e e' live live'.
+      f.apart s o mapping another (sym (there s (still s mapping e live)) ∙ e) (sym (there o (still o another e' live')) ∙ e') live live';
+  flat = λ p n. elim (cases_eq p process) [
+    | inl z ↦ elim (cases_eq n number) [
+      | inl y ↦ rw (z, y) (mapping_at-without_mapping state process number ∙ sym (ap (flat_found now) gone))
+      | inr m ↦ other p n (λ q r. m r)
+    ]
+    | inr m ↦ other p n (λ q r. m q)
+  ];
+  counted =
+      finite.len-remove places_total state.mappings (place_of process number)
+      ∙ ap (λ (o : Option Mapping). cond (is_some o) (finite.len state.mappings - 1) (finite.len state.mappings)) was
+      ∙ omega (arith, f.counted, live_slots-torn_slot old.maps slot live);
+  some = λ s mapping e. elim (cases_eq s slot) [
+    | inl z ↦ rw (← here s mapping z e) (f.some slot k.mapping k.at)
+    | inr n ↦ f.some s mapping (sym (there s n) ∙ e)
+  ];
+  shown = λ s mapping e. elim (cases_eq s slot) [
+    | inl z ↦ rw (← here s mapping z e) (f.shown slot k.mapping k.at)
+    | inr n ↦ f.shown s mapping (sym (there s n) ∙ e)
+  ];
+  placed = λ s index lt e. place-torn_slot old.maps slot s index below ∙ f.placed s index lt (sym (pins s index) ∙ e);
+}
+  where
+    now : MapsView
+    now = torn_slot old.maps slot
+
+    k : IsFoundSlot old.maps process number slot
+    k = found_slot old.maps process number slot found
+
+    below : slot < length old.maps.slots
+    below = slot-below old.maps slot k.mapping k.at
+
+    live : is_live_slot (slot_at old.maps slot) ≡ true
+    live = ap is_live_slot k.at ∙ k.live
+
+    there : (s : ℕ) → s ≢ slot → slot_at now s ≡ slot_at old.maps s
+    there s n = slot_at-torn_slot_other old.maps slot s n
+
+    pins : (s index : ℕ) → pinned_at now s index ≡ pinned_at old.maps s index
+    pins s index = ap (λ xs. slice_index_or xs (place_at s index) false) (pinned-torn_slot old.maps slot)
+
+    here : (s : ℕ) (mapping : Slot) → s ≡ slot → slot_at now s ≡ Some mapping → record k.mapping { live = false } ≡ mapping
+    here s mapping z e =
+        let both : Some (record k.mapping { live = false }) ≡ Some mapping = sym (slot_at-torn_slot_same old.maps slot below ∙ ap torn k.at) ∙ ap (slot_at now) (sym z) ∙ e in
+        some_slot both
+
+    still : (s : ℕ) (mapping : Slot) → slot_at now s ≡ Some mapping → mapping.live ≡ true → s ≢ slot
+    still s mapping e lives z = let bad : false ≡ true = ap (λ (m : Slot). m.live) (here s mapping z e) ∙ lives in cc
+
+    -- no other slot has a live mapping of that number
+    alone : (s : ℕ) (o : Option Slot) → slot_at old.maps s ≡ o → is_mapping process number o ≡ true → s ≡ slot
+    alone s None e is = let bad : false ≡ true = is in absurd cc
+    alone s (Some m) e is =
+        let its = mapping_is process number m is in f.apart s slot m k.mapping e k.at its.0 k.live (its.1 ∙ sym k.process_is) (its.2 ∙ sym k.number_is)
+
+    gone : find_slot now process number ≡ None
+    gone = find_slot-torn_slot_same old.maps slot process number (λ s is. alone s (slot_at old.maps s) refl is)
+
+    was : mapping_at state process number ≡ Some (flat_slot old.maps slot k.mapping)
+    was = f.flat process number ∙ ap (flat_found old.maps) found ∙ ap (flat_mapping old.maps slot) k.at
+
+    other : (p n : ℕ) → (p ≡ process → n ≡ number → ⊥) → mapping_at (without_mapping state process number) p n ≡ flat_found now (find_slot now p n)
+    other p n differ =
+        mapping_at-without_mapping_other state process number p n (λ e. differ (ap (λ (x : Place). x.process) e) (ap (λ (x : Place). x.map) e))
+        ∙ f.flat p n
+        ∙ sym (ap (flat_found now) (find_slot-torn_slot_other old.maps slot p n not_its) ∙ flat_other old.maps now slot (find_slot old.maps p n) there pins apart)
+      where
+        not_its : is_mapping p n (slot_at old.maps slot) ≡ false
+        not_its = ap (is_mapping p n) k.at ∙ other_mapping p n k.mapping (λ a b. differ (sym a ∙ k.process_is) (sym b ∙ k.number_is))
+
+        -- a slot has one mapping
+        apart : (s : ℕ) → find_slot old.maps p n ≡ Some s → s ≢ slot
+        apart s e z = let bad : true ≡ false = sym (find_slot-is old.maps p n s e) ∙ ap (λ q. is_mapping p n (slot_at old.maps q)) z ∙ not_its in cc
+
+-- the slot of a mapping that isn't live is free, where none of its pages is pinned
+pub SlotsFit-freed_slot : (state : FlatState) (old : Parts) (slot : ℕ) (mapping : Slot) → SlotsFit state old → slot_at old.maps slot ≡ Some mapping → mapping.live ≡ false
+    → ((index : ℕ) → index < MAX_MAPPING_PAGES → pinned_at old.maps slot index ≡ false) → SlotsFit state (record old { maps = freed_slot old.maps slot })
+SlotsFit-freed_slot state old slot mapping f at not_live unpinned = record {
+  slots = length-freed_slot old.maps slot ∙ f.slots;
+  entries = ap length (entries-freed_slot old.maps slot) ∙ f.entries;
+  pinned = ap length (pinned-freed_slot old.maps slot) ∙ f.pinned;
+  pages = pages-freed_slot old.maps slot ∙ f.pages;
+  apart = λ s o m a e e'. f.apart s o m a (was s m e) (was o a e');
+  flat = λ p n.
+      f.flat p n
+      ∙ sym (ap (flat_found now) (find_slot-freed_slot old.maps slot p n unlive) ∙ flat_other old.maps now slot (find_slot old.maps p n) there pins (apart p n));
+  counted = f.counted ∙ sym (live_slots-freed_slot old.maps slot (slot-below old.maps slot mapping at) unlive);
+  some = λ s m e. f.some s m (was s m e);
+  shown = λ s m e. f.shown s m (was s m e);
+  placed = λ s index lt e. elim (cases_eq s slot) [
+    | inl z ↦ let bad : false ≡ true = sym (ap (λ x. pinned_at old.maps x index) z ∙ unpinned index lt) ∙ sym (pins s index) ∙ e in absurd cc
+    | inr n ↦ ap (λ (o : Option Slot). slot_has_page o index) (there s n) ∙ f.placed s index lt (sym (pins s index) ∙ e)
+  ];
+}
+  where
+    now : MapsView
+    now = freed_slot old.maps slot
+
+    unlive : is_live_slot (slot_at old.maps slot) ≡ false
+    unlive = ap is_live_slot at ∙ not_live
+
+    there : (s : ℕ) → s ≢ slot → slot_at now s ≡ slot_at old.maps s
+    there s n = slot_at-freed_slot_other old.maps slot s n
+
+    pins : (s index : ℕ) → pinned_at now s index ≡ pinned_at old.maps s index
+    pins s index = ap (λ xs. slice_index_or xs (place_at s index) false) (pinned-freed_slot old.maps slot)
+
+    was : (s : ℕ) (m : Slot) → slot_at now s ≡ Some m → slot_at old.maps s ≡ Some m
+    was s m e = sym (there s n) ∙ e
+      where
+        n : s ≢ slot
+        n z = let bad : None ≡ Some m = sym (slot_at-freed_slot_same old.maps slot (slot-below old.maps slot mapping at)) ∙ ap (slot_at now) (sym z) ∙ e in cc
+
+    apart : (p n s : ℕ) → find_slot old.maps p n ≡ Some s → s ≢ slot
+    apart p n s e z =
+        let its = found_slot old.maps p n s e in
+        let bad : true ≡ false = sym its.live ∙ ap is_live_slot (sym its.at ∙ ap (slot_at old.maps) z) ∙ unlive in cc

@@ -25,7 +25,7 @@ info-filled parts page h =
     two ∙ ap (λ (i : PageInfo). record i { owner = None }) one
 
 -- what is taken out of a list of options isn't there
-get_or-set_none : (xs : List (Option ℕ)) (i : ℕ) → get_or (set xs i None) i None ≡ None
+pub get_or-set_none : (xs : List (Option ℕ)) (i : ℕ) → get_or (set xs i None) i None ≡ None
 get_or-set_none xs i = elim (cases_lt i (length xs)) [
   | inl below ↦ get_or-set_same xs i None None below
   | inr past ↦ get_or_past (set xs i None) i None (rw length-set past)

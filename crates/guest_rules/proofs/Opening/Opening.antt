@@ -23,16 +23,16 @@ use Rattle.guest_pages.specs.PagesView.{free_info, AreDistinct}
 use Rattle.guest_cache.specs.CacheView.{IsTag}
 use Rattle.guest_cache.specs.Laws.CacheLaws.{IsCache-opening, page_of-opening}
 use Rattle.guest_rules.specs.declared.parts.Parts.{Parts}
-use Rattle.guest_rules.specs.declared.processor.Phase.TheVariants.{Start, Fill, Sync as AtSync, SyncWrite}
+use Rattle.guest_rules.specs.declared.processor.Phase.TheVariants.{Start, Fill, Room as AtRoom, Sync as AtSync, SyncWrite, Teardown}
 use Rattle.guest_rules.specs.declared.processor.Processor.{Processor}
 use Rattle.guest_rules.specs.GuestState.{first_processor, processor_at, opening_guest}
 use Rattle.guest_rules.specs.Built.{GuestIsBuilt}
 use Rattle.guest_rules.specs.Fresh.{AreFresh}
-use Rattle.guest_rules.specs.Fit.{PagesFit, LocksFit, FlatFit, JournalFit, FaultsFit, Fit, backing, current_at, one_if_lost}
+use Rattle.guest_rules.specs.Fit.{PagesFit, LocksFit, TeardownsFit, FlatFit, JournalFit, FaultsFit, Fit, backing, current_at, one_if_lost, commands_of, entries_of}
 use Rattle.guest_rules.proofs.Kept.Faults.{sum_below-le}
 use Rattle.guest_rules.proofs.Kept.PageFits.{EachPageFits, PageFits-free, HintsFit-from, ContentsFit-from}
 use Rattle.guest_rules.proofs.Kept.PinsKept.{PinsFit-from}
-use Rattle.guest_rules.proofs.Opening.OpeningMaps.{SlotsFit-opening, EntriesFit-opening, PinsStand-opening, info-opening}
+use Rattle.guest_rules.proofs.Opening.OpeningMaps.{none_slot, SlotsFit-opening, EntriesFit-opening, PinsStand-opening, info-opening}
 use Rattle.guest_rules.proofs.Opening.OpeningFiles.{planned_pages, opening-page, opening-lengths}
 
 -- a list of one value, read at that value as default
@@ -71,26 +71,38 @@ LocksFit-opening : (plan : GuestPlan) → LocksFit (opening_guest plan)
 LocksFit-opening plan = record {
   stale_clean = λ page u. ap (λ (i : PageInfo). i.dirty) (info-opening plan.pages page);
   filling = λ cpu page phase. let bad : Start ≡ Fill page = ap (λ (p : Processor). p.phase) (sym (processor-opening plan cpu)) ∙ phase in absurd cc;
+  paging_out = λ cpu page phase. let bad : Start ≡ AtRoom page = ap (λ (p : Processor). p.phase) (sym (processor-opening plan cpu)) ∙ phase in absurd cc;
   syncing = λ cpu index phase. let bad : Start ≡ AtSync index = ap (λ (p : Processor). p.phase) (sym (processor-opening plan cpu)) ∙ phase in absurd cc;
   writing = λ cpu index page phase. let bad : Start ≡ SyncWrite index page = ap (λ (p : Processor). p.phase) (sym (processor-opening plan cpu)) ∙ phase in absurd cc;
   locked = λ cpu page owner. let bad : None ≡ Some cpu = ap (λ (i : PageInfo). i.owner) (sym (info-opening plan.pages page)) ∙ owner in absurd cc;
   stale = λ page tag some none. let bad : None ≡ Some tag = ap (λ (i : PageInfo). i.tag) (sym (info-opening plan.pages page)) ∙ some in absurd cc;
 }
 
-no_place : (cpus : List CpuPlan) → sum_by (λ processor. processor.place) (map (λ cpu. first_processor) cpus) ≡ 0
-no_place [] = refl
-no_place (cpu ∷ cpus) = sum_by-cons (λ (processor : Processor). processor.place) first_processor (map (λ c. first_processor) cpus) ∙ (omega (arith, no_place cpus))
+TeardownsFit-opening : (plan : GuestPlan) → TeardownsFit (opening_guest plan)
+TeardownsFit-opening plan = record {
+  tearing = λ cpu slot index phase. absurd (none cpu slot index phase);
+  torn = λ slot mapping e not_live. absurd (none_slot plan slot mapping e);
+  alone = λ cpu other slot index at phase phase'. absurd (none cpu slot index phase);
+  unpinned = λ slot index mapping e not_live below. absurd (none_slot plan slot mapping e);
+}
+  where
+    none : (cpu slot index : ℕ) → (processor_at (opening_guest plan) cpu).phase ≡ Teardown slot index → ⊥
+    none cpu slot index phase = let bad : Start ≡ Teardown slot index = ap (λ (p : Processor). p.phase) (sym (processor-opening plan cpu)) ∙ phase in cc
+
+no_entry : (cpus : List CpuPlan) → sum_by entries_of (map (λ cpu. first_processor) cpus) ≡ 0
+no_entry [] = refl
+no_entry (cpu ∷ cpus) = sum_by-cons entries_of first_processor (map (λ c. first_processor) cpus) ∙ (omega (arith, no_entry cpus))
 
 JournalFit-opening : (plan : GuestPlan) → JournalFit (opening_guest plan)
 JournalFit-opening plan = record {
   legal = tt {0};
-  places = λ cpu below. ap (λ (p : Progress). p.next) (all-same plan.cpus at_first cpu) ∙ sym (place cpu);
-  within = λ cpu below. rw (place cpu) (omega arith);
-  counted = sym (no_place plan.cpus);
+  places = λ cpu below. ap (λ (p : Progress). p.next) (all-same plan.cpus at_first cpu) ∙ sym (entries cpu);
+  within = λ cpu below. subst (λ n. n ≤ commands_of plan cpu) (sym (entries cpu)) (omega arith);
+  counted = sym (no_entry plan.cpus);
 }
   where
-    place : (cpu : ℕ) → (processor_at (opening_guest plan) cpu).place ≡ 0
-    place cpu = ap (λ (p : Processor). p.place) (processor-opening plan cpu)
+    entries : (cpu : ℕ) → entries_of (processor_at (opening_guest plan) cpu) ≡ 0
+    entries cpu = ap entries_of (processor-opening plan cpu)
 
 FaultsFit-opening : (plan : GuestPlan) (v : StorageView) → ((page : ℕ) → page < v.pages → v.values page ≡ opening_value) → FaultsFit (opening_guest plan).parts v
 FaultsFit-opening plan v fresh =
@@ -117,6 +129,7 @@ Fit-opening plan v d range built fresh = record {
   entries = EntriesFit-opening plan;
   pins = PinsFit-from parts v d (PinsStand-opening plan) fits;
   locks = LocksFit-opening plan;
+  teardowns = TeardownsFit-opening plan;
   hints = HintsFit-from parts v d fresh.none_held fits;
   contents = ContentsFit-from parts v d fresh.tells (disk_of plan.files plan.swap) fresh.blocks blocks fits;
   flat = backed;

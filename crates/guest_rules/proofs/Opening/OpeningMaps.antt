@@ -30,7 +30,7 @@ pub info-opening : (count page : ℕ) → info_at (opening_pages count) page ≡
 info-opening count page = all-one count free_info page
 
 -- what an opening has none of
-none_slot : (plan : GuestPlan) (slot : ℕ) (mapping : Slot) → slot_at (opening_guest plan).parts.maps slot ≡ Some mapping → ⊥
+pub none_slot : (plan : GuestPlan) (slot : ℕ) (mapping : Slot) → slot_at (opening_guest plan).parts.maps slot ≡ Some mapping → ⊥
 none_slot plan slot mapping e = let bad : None ≡ Some mapping = sym (slot_at-opening plan.pages MAX_MAPPING_SLOTS slot) ∙ e in cc
 
 none_entry : (plan : GuestPlan) (slot index : ℕ) (pte : Pte) → entry_at (opening_guest plan).parts.maps slot index ≡ Some pte → ⊥
@@ -46,12 +46,12 @@ SlotsFit-opening plan = record {
   entries = length-replicate {A = Option Pte} (MAX_MAPPING_SLOTS * MAX_MAPPING_PAGES) None;
   pinned = length-replicate {A = Bool} (MAX_MAPPING_SLOTS * MAX_MAPPING_PAGES) false;
   pages = sym (length-replicate plan.pages free_info);
-  live = λ slot mapping e. absurd (none_slot plan slot mapping e);
-  apart = λ slot other mapping another e e' process number. absurd (none_slot plan slot mapping e);
+  apart = λ slot other mapping another e e' live live' process number. absurd (none_slot plan slot mapping e);
   flat = λ process number.
       finite.get-empty place_cmp (place_of process number)
       ∙ sym (ap (flat_found (opening_maps plan.pages MAX_MAPPING_SLOTS)) (find_slot-opening plan.pages MAX_MAPPING_SLOTS process number));
   counted = finite.len-empty place_cmp Mapping ∙ sym (live_slots-opening plan.pages MAX_MAPPING_SLOTS);
+  some = λ slot mapping e. absurd (none_slot plan slot mapping e);
   shown = λ slot mapping e. absurd (none_slot plan slot mapping e);
   placed = λ slot index below e. absurd (none_pinned plan slot index e);
 }

@@ -1,19 +1,22 @@
 -- What the words of the calls ask of a page stands for the pages that a guest between two turns passes to them.
-use Rattle.std.specs.Prelude.{◌≡◌, ℕ}
-use Rattle.std.proofs.Common.{◌∙◌}
+use Rattle.std.specs.Prelude.{◌≡◌, ℕ, Some, refl}
+use Rattle.std.proofs.Common.{inr, ◌∙◌}
 use Rattle.cmm_types.specs.declared.page.Tag.{Tag}
 use Rattle.cmm_types.specs.declared.page.Tag.TheVariants.{File}
 use Rattle.cmm_io.specs.DiskView.{DiskView}
 use Rattle.cmm_flat.specs.State.{FlatState}
 use Rattle.cmm_storage.specs.StorageView.{StorageView}
-use Rattle.guest_rules.specs.declared.processor.Phase.TheVariants.{Fill}
+use Rattle.guest_maps.specs.declared.slot.Pte.{Pte}
+use Rattle.guest_maps.specs.MapsView.{entry_at}
+use Rattle.guest_rules.specs.declared.processor.Phase.TheVariants.{Fill, Room as AtRoom, SyncWrite, Teardown}
 use Rattle.guest_rules.specs.GuestState.{GuestState, processor_at}
-use Rattle.guest_rules.specs.Fit.{FitAt, IsWriting}
-use Rattle.guest_rules.specs.Answers.{HasBeenFilled, IsToBeFilled, IsToBeWritten}
+use Rattle.guest_rules.specs.Fit.{FitAt}
+use Rattle.guest_rules.specs.Answers.{HasBeenFilled, IsToBeFilled, IsToBeWritten, CanBeWrittenOut}
 use Rattle.guest_rules.proofs.Cases.TurnCases.{ShowsPage}
+use Rattle.guest_rules.proofs.Cases.CaseTear.{torn_page}
 use Rattle.guest_rules.proofs.Kept.Unshown.{stale-unshown}
 use Rattle.guest_rules.proofs.Kept.Unpinned.{stale-unpinned}
-use Rattle.guest_rules.proofs.Ready.Ready.{can_be_shown, can_be_filled, can_be_written}
+use Rattle.guest_rules.proofs.Ready.Ready.{HasToWrite, writing-has, paging_out-has, can_be_shown, can_be_filled, can_write_out}
 
 -- a page with a tag that is up to date
 pub shown-ready : (state : FlatState) (g : GuestState) (v : StorageView) (d : DiskView) (page : ℕ) (tag : Tag) → FitAt state g v d → ShowsPage g tag page → HasBeenFilled g.parts page v
@@ -38,11 +41,11 @@ fill-ready state g v d cpu page f phase =
     }
 
 -- a page that a processor writes back
-pub write_back-ready : (state : FlatState) (g : GuestState) (v : StorageView) (d : DiskView) (cpu index page : ℕ) → FitAt state g v d → IsWriting g cpu index page → IsToBeWritten g.parts page v
-write_back-ready state g v d cpu index page f k =
-    let can = can_be_written state g v d cpu index page f k in
+write-ready : (state : FlatState) (g : GuestState) (v : StorageView) (d : DiskView) (cpu page : ℕ) (tag : Tag) → FitAt state g v d → HasToWrite g cpu page tag → IsToBeWritten g.parts page v
+write-ready state g v d cpu page tag f k =
+    let can = can_write_out state g v d cpu page tag f k in
     record {
-      has = record { below = k.below; tag = File k.file index; tagged = k.tagged };
+      has = record { below = k.locked.below; tag = tag; tagged = k.locked.tagged };
       block = can.block;
       backed_by = can.backed_at ∙ can.backs;
       stable = can.usage;
@@ -50,3 +53,30 @@ write_back-ready state g v d cpu index page f k =
       filled = can.filled;
       tells = can.tells;
     }
+
+-- for a sync
+pub write_back-ready : (state : FlatState) (g : GuestState) (v : StorageView) (d : DiskView) (cpu index page : ℕ) → FitAt state g v d → (processor_at g cpu).phase ≡ SyncWrite index page
+    → IsToBeWritten g.parts page v
+write_back-ready state g v d cpu index page f phase =
+    let k = f.locks.writing cpu index page phase in write-ready state g v d cpu page (File k.file index) f (writing-has g cpu index page k)
+
+-- to make room
+pub page_out-ready : (state : FlatState) (g : GuestState) (v : StorageView) (d : DiskView) (cpu page : ℕ) → FitAt state g v d → (processor_at g cpu).phase ≡ AtRoom page
+    → IsToBeWritten g.parts page v
+page_out-ready state g v d cpu page f phase =
+    let k = f.locks.paging_out cpu page phase in write-ready state g v d cpu page k.tag f (paging_out-has g cpu page k)
+
+-- a page that may go can be written out: each tag is of a file, which has its block
+pub go-ready : (state : FlatState) (g : GuestState) (v : StorageView) (d : DiskView) (page : ℕ) (tag : Tag) → FitAt state g v d → ShowsPage g tag page → CanBeWrittenOut g.parts page v
+go-ready state g v d page tag f shows =
+    let its = f.pins.of_files page tag shows.tagged in
+    record {
+      filled = shown-ready state g v d page tag f shows;
+      backed_by = λ changed. inr (rw (shows.tagged, its.2) refl);
+    }
+
+-- the page whose entry an unmap clears
+pub clear-ready : (state : FlatState) (g : GuestState) (v : StorageView) (d : DiskView) (cpu slot index : ℕ) (pte : Pte) → FitAt state g v d
+    → (processor_at g cpu).phase ≡ Teardown slot index → entry_at g.parts.maps slot index ≡ Some pte → HasBeenFilled g.parts pte.page v
+clear-ready state g v d cpu slot index pte f phase entry =
+    let its = torn_page state g v d cpu slot index pte f (f.teardowns.tearing cpu slot index phase) entry in shown-ready state g v d pte.page its.0.tag f its.1

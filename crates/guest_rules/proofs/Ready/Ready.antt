@@ -11,16 +11,17 @@ use Rattle.cmm_storage.specs.StorageView.{StorageView}
 use Rattle.guest_pages.specs.declared.info.PageInfo.{PageInfo}
 use Rattle.guest_pages.specs.PagesView.{info_at, with_info, with_dirty, with_uptodate, with_owner, with_pins, with_writers}
 use Rattle.guest_pages.specs.Laws.PagesLaws.{info_at-with_info_same, length-with_info}
-use Rattle.guest_cache.specs.CacheView.{IsTag, page_of, pages_before}
+use Rattle.guest_cache.specs.CacheView.{IsTag, page_of, pages_before, backing_of}
 use Rattle.guest_rules.specs.declared.parts.Parts.{Parts}
 use Rattle.guest_rules.specs.declared.processor.Phase.TheVariants.{Fill}
 use Rattle.guest_rules.specs.Hint.{hint}
 use Rattle.guest_rules.specs.GuestState.{GuestState, processor_at}
 use Rattle.guest_rules.specs.Rows.{mapped, pinned, pins_after, filled}
 use Rattle.guest_maps.specs.MapsView.{one_if}
-use Rattle.guest_rules.specs.Fit.{FitAt, IsWriting}
+use Rattle.guest_rules.specs.Fit.{FitAt, IsWriting, IsPagingOut}
 use Rattle.guest_rules.proofs.Cases.TurnCases.{HasPage, ShowsPage}
 use Rattle.guest_rules.specs.Syncs.{unlocked, cleaned}
+use Rattle.guest_rules.proofs.Kept.LocksKept.{LockedPage}
 use Rattle.guest_rules.proofs.Kept.SyncTables.{change-unlocked, change-cleaned}
 use Rattle.guest_rules.proofs.Rows.Values.{may_stable, stable_there}
 use Rattle.guest_rules.proofs.Kept.Tables.{info-filled}
@@ -108,25 +109,51 @@ lost_unlocked state g v d page tag found f shows may lost = record { below = sho
         let same = may_stable (v.values page) found usage may in
         let bad : true ≡ false = sym lost ∙ ap (λ q. is_lost q.contents) same ∙ stable_there (v.values page) usage (f.hints.values page below) in absurd cc
 
--- a page that a processor writes back
-pub can_be_written : (state : FlatState) (g : GuestState) (v : StorageView) (d : DiskView) (cpu index page : ℕ) → FitAt state g v d → (k : IsWriting g cpu index page)
-    → CanBeWritten g.parts page (File k.file index) v
-can_be_written state g v d cpu index page f k =
-    let below = below_view state g v d page f k.below in
-    let tag : Tag = File k.file index in
-    let clean = change-cleaned g.parts page k.below in
-    let dirty = change-unlocked g.parts page k.below in
+-- a processor has locked the page to write it back, for a sync or to make room, and its tag has a block
+pub record HasToWrite (g : GuestState) (cpu page : ℕ) (tag : Tag) : Type 0 where
+  pub locked : LockedPage g cpu page tag
+  pub block : ℕ
+  pub backs : backing_of g.parts.cache tag ≡ Some block
+
+pub writing-has : (g : GuestState) (cpu index page : ℕ) → (k : IsWriting g cpu index page) → HasToWrite g cpu page (File k.file index)
+writing-has g cpu index page k = record {
+  locked = record { below = k.below; owner = k.owner; tagged = k.tagged; uptodate = k.uptodate };
+  block = pages_before g.parts.cache.files k.file + index;
+  backs = refl;
+}
+
+pub paging_out-has : (g : GuestState) (cpu page : ℕ) → (k : IsPagingOut g cpu page) → HasToWrite g cpu page k.tag
+paging_out-has g cpu page k = record {
+  locked = record { below = k.below; owner = k.owner; tagged = k.tagged; uptodate = k.uptodate };
+  block = k.block;
+  backs = k.backs;
+}
+
+-- such a page can be written
+pub can_write_out : (state : FlatState) (g : GuestState) (v : StorageView) (d : DiskView) (cpu page : ℕ) (tag : Tag) → FitAt state g v d → HasToWrite g cpu page tag → CanBeWritten g.parts page tag v
+can_write_out state g v d cpu page tag f k =
+    let its = k.locked in
+    let below = below_view state g v d page f its.below in
+    let clean = change-cleaned g.parts page its.below in
+    let dirty = change-unlocked g.parts page its.below in
     record {
       tells = f.contents.tells;
-      usage = f.hints.hints page below ∙ hint_locked (info_at g.parts.pages page) tag cpu k.tagged k.owner;
+      usage = f.hints.hints page below ∙ hint_locked (info_at g.parts.pages page) tag cpu its.tagged its.owner;
       value = f.hints.values page below;
-      filled = f.contents.not_blank page tag below k.tagged k.uptodate;
-      backed_at = rw k.tagged refl;
-      block = pages_before g.parts.cache.files k.file + index;
-      backs = refl;
-      used_clean = is_used (cleaned g.parts page) page tag (rw clean.size k.below) (ap (λ (i : PageInfo). i.tag) clean.here ∙ k.tagged);
-      used_dirty = is_used (unlocked g.parts page) page tag (rw dirty.size k.below) (ap (λ (i : PageInfo). i.tag) dirty.here ∙ k.tagged);
+      filled = f.contents.not_blank page tag below its.tagged its.uptodate;
+      backed_at = rw its.tagged refl;
+      block = k.block;
+      backs = k.backs;
+      used_clean = is_used (cleaned g.parts page) page tag (rw clean.size its.below) (ap (λ (i : PageInfo). i.tag) clean.here ∙ its.tagged);
+      used_dirty = is_used (unlocked g.parts page) page tag (rw dirty.size its.below) (ap (λ (i : PageInfo). i.tag) dirty.here ∙ its.tagged);
     }
+
+pub can_be_written : (state : FlatState) (g : GuestState) (v : StorageView) (d : DiskView) (cpu index page : ℕ) → FitAt state g v d → (k : IsWriting g cpu index page)
+    → CanBeWritten g.parts page (File k.file index) v
+can_be_written state g v d cpu index page f k = can_write_out state g v d cpu page (File k.file index) f (writing-has g cpu index page k)
+
+pub can_be_paged_out : (state : FlatState) (g : GuestState) (v : StorageView) (d : DiskView) (cpu page : ℕ) → FitAt state g v d → (k : IsPagingOut g cpu page) → CanBeWritten g.parts page k.tag v
+can_be_paged_out state g v d cpu page f k = can_write_out state g v d cpu page k.tag f (paging_out-has g cpu page k)
 
 pub can_be_filled : (state : FlatState) (g : GuestState) (v : StorageView) (d : DiskView) (cpu page : ℕ) → FitAt state g v d → (processor_at g cpu).phase ≡ Fill page → CanBeFilled g.parts page v d
 can_be_filled state g v d cpu page f phase =

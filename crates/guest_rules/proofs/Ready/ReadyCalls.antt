@@ -11,30 +11,36 @@ use Rattle.cmm_types.specs.declared.plan.CpuPlan.{CpuPlan}
 use Rattle.cmm_types.specs.declared.plan.GuestPlan.{GuestPlan}
 use Rattle.cmm_types.specs.declared.command.TheConstants.{MAX_MAPPING_NUMBERS, MAX_MAPPING_PAGES}
 use Rattle.cmm_types.specs.declared.command.Op.{Op}
-use Rattle.cmm_types.specs.declared.command.Op.TheVariants.{Read, MapFile, Load, Store, Pin, Unpin, Sync}
+use Rattle.cmm_types.specs.declared.command.Op.TheVariants.{Read, MapFile, Unmap, Load, Store, Pin, Unpin, Sync}
 use Rattle.cmm_types.specs.InRange.{GuestInRange, ArePages, IsPiece, file_pages_of}
 use Rattle.cmm_io.specs.DiskView.{DiskView}
+use Rattle.essa_state.specs.StateWord.{is_unused}
 use Rattle.cmm_flat.specs.Legal.{command_of, process_of, flat_of}
 use Rattle.cmm_storage.specs.StorageView.{StorageView}
 use Rattle.guest_pages.specs.PagesView.{info_at}
 use Rattle.guest_cache.specs.CacheView.{IsTag, page_of, backing_of}
 use Rattle.guest_cache.specs.Laws.CacheLaws.{backing_of-below}
 use Rattle.guest_maps.specs.declared.slot.Pte.{Pte}
-use Rattle.guest_maps.specs.MapsView.{IsPlace, free_slot, find_slot, entry_at, stores_to}
-use Rattle.guest_rules.specs.declared.processor.Phase.TheVariants.{Fill, SyncWrite}
+use Rattle.guest_maps.specs.MapsView.{IsPlace, slot_at, is_live_slot, free_slot, find_slot, entry_at, stores_to}
+use Rattle.guest_maps.specs.Laws.MapsLaws.{IsPlace-from}
+use Rattle.guest_rules.specs.declared.processor.Phase.TheVariants.{Fill, Room as AtRoom, SyncWrite}
 use Rattle.guest_rules.specs.declared.processor.Processor.{Processor}
 use Rattle.guest_rules.specs.GuestState.{GuestState, processor_at, first_processor}
 use Rattle.guest_rules.specs.Rows.{backing_at}
-use Rattle.guest_rules.specs.Fit.{SizesFit, Fit, commands_of, all_commands, IsSyncing}
+use Rattle.guest_rules.specs.Calls.{CanClear, CanMakeRoom, CanWriteBack}
+use Rattle.guest_rules.specs.Fit.{SizesFit, Fit, commands_of, all_commands, answered_early, entries_of, IsSyncing, IsTearing}
 use Rattle.guest_rules.proofs.Cases.TurnCases.{Has, Starts, HasItsTag, pin_op}
 use Rattle.guest_rules.proofs.Cases.Commands.{command-below, commands_of-le, command-in_range, process_of-below}
 use Rattle.guest_rules.proofs.Kept.PageFits.{tagged-below}
-use Rattle.guest_rules.proofs.Kept.EntryLaws.{place-tagged}
+use Rattle.guest_rules.proofs.Kept.EntryLaws.{place-tagged, some_writer}
 use Rattle.guest_rules.proofs.Kept.PinLaws.{pins_within-some, pins_within-most}
 use Rattle.guest_rules.proofs.Kept.SlotsKept.{slot-below}
 use Rattle.guest_rules.proofs.Cases.WantedTags.{tag_in-Some, is_wanted, sync-file, planned-tag}
+use Rattle.guest_rules.proofs.Cases.MapsFound.{found_slot}
 use Rattle.guest_rules.proofs.Cases.Placed.{pin-place}
-use Rattle.guest_rules.proofs.Ready.Ready.{below_view, can_be_written}
+use Rattle.guest_rules.proofs.Cases.CaseTear.{torn_page}
+use Rattle.guest_rules.proofs.Cases.Stuck.{full-tagged}
+use Rattle.guest_rules.proofs.Ready.Ready.{below_view, can_be_written, can_be_paged_out}
 use Rattle.guest_rules.specs.Turns.{file_pages}
 use Rattle.guest_rules.proofs.Cases.FileSizes.{file_pages-some, file_pages-most}
 use Rattle.guest_rules.proofs.Cases.Reached.{Reaches, entry_page, has_free_slot}
@@ -169,6 +175,45 @@ page-shown g v d page f below = rw f.slots.pages below
 pub writers-most : (g : GuestState) (v : StorageView) (d : DiskView) (page : ℕ) → Fit g v d → (info_at g.parts.pages page).writers ≤ MAX_MAPPING_SLOTS * MAX_MAPPING_PAGES
 writers-most g v d page f = omega (arith, f.entries.writers page, count_by-le-length (stores_to page) g.parts.maps.entries, f.slots.entries)
 
+-- the page of an entry that allows stores has a writer
+writer-some : (g : GuestState) (v : StorageView) (d : DiskView) (slot index : ℕ) (pte : Pte) → Fit g v d → entry_at g.parts.maps slot index ≡ Some pte → pte.writable ≡ true
+    → 1 ≤ (info_at g.parts.pages pte.page).writers
+writer-some g v d slot index pte f entry writable =
+    let entry' : entry_at g.parts.maps slot index ≡ Some (record { page = pte.page; writable = true }) = entry ∙ ap (λ w. let out : Option Pte = Some (record pte { writable = w }) in out) writable in
+    omega (arith, f.entries.writers pte.page, some_writer g.parts.maps slot index pte.page entry')
+
+-- ---- unmaps
+
+pub unmap-number : (g : GuestState) (v : StorageView) (d : DiskView) (cpu number : ℕ) → Fit g v d → Has g cpu (Unmap number) → number < MAX_MAPPING_NUMBERS
+unmap-number g v d cpu number f has = command-in_range g.plan cpu (processor_at g cpu).place (Unmap number) f.sizes.range has.command
+
+-- the mapping that an unmap finds is live
+pub unmap-live : (g : GuestState) (cpu number slot : ℕ) → find_slot g.parts.maps (process_of g.plan cpu) number ≡ Some slot → is_live_slot (slot_at g.parts.maps slot) ≡ true
+unmap-live g cpu number slot found = let its = found_slot g.parts.maps (process_of g.plan cpu) number slot found in rw its.at its.live
+
+-- the page that an unmap is at is a place, and one that a mapping may have
+pub tearing-place : (g : GuestState) (cpu slot index : ℕ) → (k : IsTearing g cpu slot index) → IsPlace g.parts.maps slot index
+tearing-place g cpu slot index k = IsPlace-from g.parts.maps slot index k.mapping k.at k.within
+
+pub tearing-below : (g : GuestState) (v : StorageView) (d : DiskView) (cpu slot index : ℕ) → Fit g v d → IsTearing g cpu slot index → index < MAX_MAPPING_PAGES
+tearing-below g v d cpu slot index f k = omega (arith, k.within, (f.slots.shown slot k.mapping k.at).0)
+
+-- its entry can be cleared
+pub tearing-clears : (g : GuestState) (v : StorageView) (d : DiskView) (cpu slot index : ℕ) (pte : Pte) → Fit g v d → IsTearing g cpu slot index → entry_at g.parts.maps slot index ≡ Some pte
+    → CanClear g.parts v slot index pte
+tearing-clears g v d cpu slot index pte f k entry =
+    let its = torn_page (flat_of g.plan g.journal) g v d cpu slot index pte f k entry in
+    let usable = tagged-usable g v d pte.page its.0.tag f its.1.tagged in
+    record {
+      place = tearing-place g cpu slot index k;
+      takes = record {
+        in_use = record { below = usable.page_below; shown = page-shown g v d pte.page f usable.page_below; not_free = usable.not_free; tag = usable.tag };
+        there = usable.pages_below;
+        none_held = f.hints.none_held;
+      };
+      writers = writer-some g v d slot index pte f entry;
+    }
+
 -- ---- pins
 
 -- the numbers of a pin or an unpin
@@ -208,45 +253,83 @@ place-below g v d cpu op f command = omega (arith, command-below g.plan cpu (pro
 abbrev with_cpus : GuestPlan → List CpuPlan → GuestPlan
 with_cpus plan cpus = record plan { cpus = cpus }
 
-places-le : (plan : GuestPlan) (processors : List Processor) (cpus : List CpuPlan) → length processors ≡ length cpus
-    → ((q : ℕ) → q < length processors → (get_or processors q first_processor).place ≤ commands_of (with_cpus plan cpus) q)
-    → sum_by (λ processor. processor.place) processors ≤ sum_by (λ cpu. length cpu.commands) cpus
-places-le plan [] [] size each = omega arith
-places-le plan [] (c ∷ cpus) size each = absurd (omega arith)
-places-le plan (p ∷ processors) [] size each = absurd (omega arith)
-places-le plan (p ∷ processors) (c ∷ cpus) size each =
-    let first : p.place ≤ length c.commands = each 0 (omega arith) in
-    let rest = places-le plan processors cpus (omega arith) (λ q below. each (suc q) (omega arith)) in
-    omega (arith, first, rest, sum_by-cons (λ (x : Processor). x.place) p processors, sum_by-cons (λ (x : CpuPlan). length x.commands) c cpus)
+entries-le : (plan : GuestPlan) (processors : List Processor) (cpus : List CpuPlan) → length processors ≡ length cpus
+    → ((q : ℕ) → q < length processors → entries_of (get_or processors q first_processor) ≤ commands_of (with_cpus plan cpus) q)
+    → sum_by entries_of processors ≤ sum_by (λ cpu. length cpu.commands) cpus
+entries-le plan [] [] size each = omega arith
+entries-le plan [] (c ∷ cpus) size each = absurd (omega arith)
+entries-le plan (p ∷ processors) [] size each = absurd (omega arith)
+entries-le plan (p ∷ processors) (c ∷ cpus) size each =
+    let first : entries_of p ≤ length c.commands = each 0 (omega arith) in
+    let rest = entries-le plan processors cpus (omega arith) (λ q below. each (suc q) (omega arith)) in
+    omega (arith, first, rest, sum_by-cons entries_of p processors, sum_by-cons (λ (x : CpuPlan). length x.commands) c cpus)
 
-places-lt : (plan : GuestPlan) (cpu : ℕ) (processors : List Processor) (cpus : List CpuPlan) → length processors ≡ length cpus
-    → ((q : ℕ) → q < length processors → (get_or processors q first_processor).place ≤ commands_of (with_cpus plan cpus) q) → cpu < length processors
-    → (get_or processors cpu first_processor).place < commands_of (with_cpus plan cpus) cpu
-    → sum_by (λ processor. processor.place) processors < sum_by (λ cpu. length cpu.commands) cpus
-places-lt plan cpu [] [] size each below here = absurd (omega arith)
-places-lt plan cpu [] (c ∷ cpus) size each below here = absurd (omega arith)
-places-lt plan cpu (p ∷ processors) [] size each below here = absurd (omega arith)
-places-lt plan zero (p ∷ processors) (c ∷ cpus) size each below here =
-    let first : p.place < length c.commands = here in
-    let rest = places-le plan processors cpus (omega arith) (λ q lt. each (suc q) (omega arith)) in
-    omega (arith, first, rest, sum_by-cons (λ (x : Processor). x.place) p processors, sum_by-cons (λ (x : CpuPlan). length x.commands) c cpus)
-places-lt plan (suc cpu) (p ∷ processors) (c ∷ cpus) size each below here =
-    let first : p.place ≤ length c.commands = each 0 (omega arith) in
-    let rest = places-lt plan cpu processors cpus (omega arith) (λ q lt. each (suc q) (omega arith)) (omega arith) here in
-    omega (arith, first, rest, sum_by-cons (λ (x : Processor). x.place) p processors, sum_by-cons (λ (x : CpuPlan). length x.commands) c cpus)
+entries-lt : (plan : GuestPlan) (cpu : ℕ) (processors : List Processor) (cpus : List CpuPlan) → length processors ≡ length cpus
+    → ((q : ℕ) → q < length processors → entries_of (get_or processors q first_processor) ≤ commands_of (with_cpus plan cpus) q) → cpu < length processors
+    → entries_of (get_or processors cpu first_processor) < commands_of (with_cpus plan cpus) cpu
+    → sum_by entries_of processors < sum_by (λ cpu. length cpu.commands) cpus
+entries-lt plan cpu [] [] size each below here = absurd (omega arith)
+entries-lt plan cpu [] (c ∷ cpus) size each below here = absurd (omega arith)
+entries-lt plan cpu (p ∷ processors) [] size each below here = absurd (omega arith)
+entries-lt plan zero (p ∷ processors) (c ∷ cpus) size each below here =
+    let first : entries_of p < length c.commands = here in
+    let rest = entries-le plan processors cpus (omega arith) (λ q lt. each (suc q) (omega arith)) in
+    omega (arith, first, rest, sum_by-cons entries_of p processors, sum_by-cons (λ (x : CpuPlan). length x.commands) c cpus)
+entries-lt plan (suc cpu) (p ∷ processors) (c ∷ cpus) size each below here =
+    let first : entries_of p ≤ length c.commands = each 0 (omega arith) in
+    let rest = entries-lt plan cpu processors cpus (omega arith) (λ q lt. each (suc q) (omega arith)) (omega arith) here in
+    omega (arith, first, rest, sum_by-cons entries_of p processors, sum_by-cons (λ (x : CpuPlan). length x.commands) c cpus)
 
 -- the journal has at most an entry for each command
 pub journal-most : (g : GuestState) (v : StorageView) (d : DiskView) → Fit g v d → length g.journal ≤ all_commands g.plan
-journal-most g v d f = omega (arith, places-le g.plan g.processors g.plan.cpus f.sizes.processors f.journal.within, f.journal.counted)
+journal-most g v d f = omega (arith, entries-le g.plan g.processors g.plan.cpus f.sizes.processors f.journal.within, f.journal.counted)
 
--- while a command is left there is room for its entry
+one_left : (place early commands : ℕ) → early ≡ 0 → place < commands → place + early < commands
+one_left place early commands none below = omega (arith, none, below)
+
+-- while a command is left that isn't answered yet there is room for its entry
 pub journal-room : (g : GuestState) (v : StorageView) (d : DiskView) (cpu : ℕ) (op : Op) → Fit g v d → cpu < length g.processors → command_of g.plan cpu (processor_at g cpu).place ≡ Some op
-    → length g.journal < all_commands g.plan
-journal-room g v d cpu op f below command =
-    omega (arith, places-lt g.plan cpu g.processors g.plan.cpus f.sizes.processors f.journal.within below (command-below g.plan cpu (processor_at g cpu).place op command), f.journal.counted)
+    → answered_early (processor_at g cpu).phase ≡ 0 → length g.journal < all_commands g.plan
+journal-room g v d cpu op f below command early =
+    let left = one_left (processor_at g cpu).place (answered_early (processor_at g cpu).phase) (commands_of g.plan cpu) early (command-below g.plan cpu (processor_at g cpu).place op command) in
+    omega (arith, entries-lt g.plan cpu g.processors g.plan.cpus f.sizes.processors f.journal.within below left, f.journal.counted)
 
 -- 8 processors of at most 10,000 commands
 pub all_commands-bound : (plan : GuestPlan) → GuestInRange plan → all_commands plan ≤ 80000
 all_commands-bound plan range =
     let each : All (λ cpu. length cpu.commands ≤ MAX_COMMANDS) plan.cpus = λ k d h. (range.cpus.each k d h).few in
     omega (arith, sum_by-le (λ (cpu : CpuPlan). length cpu.commands) MAX_COMMANDS plan.cpus each, range.cpus.few)
+
+-- ---- room
+
+-- a page that a processor writes back to make room can be written to the block of its tag
+pub page_out-can : (g : GuestState) (v : StorageView) (d : DiskView) (cpu page : ℕ) → Fit g v d → (processor_at g cpu).phase ≡ AtRoom page → CanWriteBack g.parts v d page
+page_out-can g v d cpu page f phase =
+    let k = f.locks.paging_out cpu page phase in
+    let usable = tagged-usable g v d page k.tag f k.tagged in
+    record {
+      below = usable.page_below;
+      there = usable.pages_below;
+      tag = usable.tag;
+      block = backing-below g v d page f;
+      used = ap is_unused (can_be_paged_out (flat_of g.plan g.journal) g v d cpu page f k).usage;
+      none_held = f.hints.none_held;
+    }
+
+-- where no page is free, room can be made
+pub full-can : (g : GuestState) (v : StorageView) (d : DiskView) → Fit g v d → g.parts.pages.free ≡ [] → CanMakeRoom g.parts v
+full-can g v d f full = record {
+  full = full;
+  tagged = full-tagged g.parts f.pages full;
+  takes = λ page below. record {
+    in_use = record {
+      below = below;
+      shown = page-shown g v d page f below;
+      not_free = λ there. full-tagged g.parts f.pages full page below (f.pages.free page there).1;
+      tag = tag-is_tag g v d page f;
+    };
+    there = below_view (flat_of g.plan g.journal) g v d page f below;
+    none_held = f.hints.none_held;
+  };
+  none_held = f.hints.none_held;
+}

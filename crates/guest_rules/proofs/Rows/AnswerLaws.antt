@@ -1,5 +1,5 @@
 -- What the runs of the calls on one page say in words.
-use Rattle.std.specs.Prelude.{◌≡◌, ◌<◌, ◌||◌, ℕ, List, length, Bool, true, false, Option, Some, None, Result, Ok, Err, refl}
+use Rattle.std.specs.Prelude.{◌≡◌, ◌<◌, ◌-◌, ◌||◌, ℕ, List, length, Bool, true, false, Option, Some, None, Result, Ok, Err, refl}
 use Rattle.std.proofs.Common.{sym, ap, subst, inl, inr, ◌∙◌, ⊎_elim}
 use Rattle.cmm_types.specs.declared.page.Usage.TheVariants.{S, V}
 use Rattle.cmm_types.specs.declared.command.Cause.TheVariants.{Disk, Paging, NoPage}
@@ -13,7 +13,8 @@ use Rattle.guest_pages.specs.declared.info.PageInfo.{PageInfo}
 use Rattle.guest_pages.specs.PagesView.{info_at, with_pins}
 use Rattle.guest_pages.specs.Laws.PagesLaws.{info_at-with_info_same, length-with_info}
 use Rattle.guest_cache.specs.CacheView.{backing_of}
-use Rattle.guest_maps.specs.MapsView.{entries_showing, with_entry, with_pinned}
+use Rattle.guest_maps.specs.declared.slot.Pte.{Pte}
+use Rattle.guest_maps.specs.MapsView.{entries_showing, with_entry, with_pinned, one_if}
 use Rattle.guest_maps.specs.Laws.MapsLaws.{entries_showing-without_same}
 use Rattle.guest_rules.specs.declared.parts.Parts.{Parts}
 use Rattle.guest_rules.specs.declared.outcome.Gone.{Gone}
@@ -26,12 +27,12 @@ use Rattle.guest_rules.specs.declared.outcome.Placed.TheVariants.{Done as PlaceD
 use Rattle.guest_rules.specs.declared.outcome.Synced.{Synced}
 use Rattle.guest_rules.specs.declared.outcome.Synced.TheVariants.{Clean, Locked, Gone as SyncGone, Waits, Again as SyncAgain}
 use Rattle.guest_rules.specs.Hint.{hint}
-use Rattle.guest_rules.specs.Rows.{freed, handled, handler, rehint, tell, make_stable, read_page, write_page, load_page, store_through, pinned, pin_page, pins_after, mapped, resolve, filled, fill, backing_at, with_change}
+use Rattle.guest_rules.specs.Rows.{freed, handled, handler, rehint, tell, make_stable, read_page, write_page, load_page, store_through, pinned, pin_page, pins_after, mapped, resolve, unmapped, clear_entry, filled, fill, backing_at, with_change}
 use Rattle.guest_rules.specs.Syncs.{locked, unlocked, cleaned, sync_page, sync_owned, write_back}
-use Rattle.guest_rules.specs.Answers.{HasTag, CanBeTold, HasBeenFilled, IsToBeFilled, IsToBeWritten, IsFree, IsHandled, WasDiscarded, MayBeDirty, IsHinted, IsRetold, StableAnswer, MissedAnswer, EntryMissed, ReadAnswer, WriteAnswer, LoadAnswer, StoreAnswer, PinAnswer, ResolveAnswer, FillAnswer, LookAnswer, SyncAnswer, IsUnlocked, BackAnswer}
+use Rattle.guest_rules.specs.Answers.{HasTag, CanBeTold, HasBeenFilled, IsToBeFilled, IsToBeWritten, IsFree, IsHandled, WasDiscarded, MayBeDirty, IsHinted, IsRetold, StableAnswer, MissedAnswer, EntryMissed, ReadAnswer, WriteAnswer, LoadAnswer, StoreAnswer, PinAnswer, ResolveAnswer, ClearAnswer, FillAnswer, LookAnswer, SyncAnswer, IsUnlocked, BackAnswer}
 use Rattle.guest_rules.proofs.Cases.TurnCases.{IsRehinted}
 use Rattle.guest_rules.proofs.Rows.ValueLaws.{hint-stale}
-use Rattle.guest_rules.proofs.Kept.RowChanges.{change-freed, freed-free, freed-maps, handled-pages, handled-maps, change-changed, change-filled, filled_info}
+use Rattle.guest_rules.proofs.Kept.RowChanges.{change-freed, freed-free, freed-maps, handled-pages, handled-maps, change-changed, change-filled, filled_info, change-unmapped, maps-unmapped}
 use Rattle.guest_rules.proofs.Kept.SyncTables.{change-locked, change-unlocked, change-cleaned}
 use Rattle.guest_rules.proofs.Rows.Held.{Stabled, rehinted_value, seen_handler, seen_make_stable, seen_rehint}
 use Rattle.guest_rules.proofs.Rows.Taken.{CanBeUsed, WasDiscarded as FoundDiscarded}
@@ -43,6 +44,7 @@ use Rattle.guest_rules.proofs.Rows.WritePage.{WriteOutcome, seen_write_page}
 use Rattle.guest_rules.proofs.Rows.EntryPage.{EntryMiss, LoadOutcome, StoreOutcome, seen_load_page, seen_store_through}
 use Rattle.guest_rules.proofs.Rows.PinPage.{PinOutcome, seen_pin_page}
 use Rattle.guest_rules.proofs.Rows.ResolvePage.{ResolveOutcome, seen_resolve}
+use Rattle.guest_rules.proofs.Rows.ClearEntry.{ClearOutcome, seen_clear_entry, is_used_unmapped}
 use Rattle.guest_rules.proofs.Rows.FillPage.{CanBeFilled, FillOutcome, seen_fill}
 use Rattle.guest_rules.proofs.Rows.SyncPage.{LookOutcome, seen_look}
 use Rattle.guest_rules.proofs.Rows.WriteBack.{CanBeWritten, BackOutcome, seen_write_back}
@@ -74,7 +76,7 @@ handled-is parts page found a w below tables unused = record {
   unused = unused.usage;
 }
 
-discarded-is : (parts : Parts) (page : ℕ) (v w : StorageView) (d e : DiskView) (a : Parts) → page < length parts.pages.infos → FoundDiscarded parts page v d a w e → WasDiscarded parts page v a w
+pub discarded-is : (parts : Parts) (page : ℕ) (v w : StorageView) (d e : DiskView) (a : Parts) → page < length parts.pages.infos → FoundDiscarded parts page v d a w e → WasDiscarded parts page v a w
 discarded-is parts page v w d e a below k = record { handled = handled-is parts page k.found a w below k.tables k.unused; found = k.found; may = k.may; lost = k.lost }
 
 -- ---- a page that was told its hint
@@ -83,7 +85,7 @@ may_be_dirty : (parts : Parts) (page : ℕ) (changed : Bool) (a : Parts) → a �
 may_be_dirty parts page true a tables = inr tables
 may_be_dirty parts page false a tables = inl tables
 
-dirty-after : (parts : Parts) (page : ℕ) (changed : Bool) → page < length parts.pages.infos
+pub dirty-after : (parts : Parts) (page : ℕ) (changed : Bool) → page < length parts.pages.infos
     → (info_at (with_change parts page changed).pages page).dirty ≡ (changed || (info_at parts.pages page).dirty)
 dirty-after parts page true below = ap (λ i. i.dirty) (change-changed parts page true below).here
 dirty-after parts page false below = refl
@@ -165,7 +167,7 @@ rehint-says parts page v d a w e can run = by (info_at parts.pages page).uptodat
 
 -- ---- a page that is read, written or pinned
 
-usable : (parts : Parts) (page : ℕ) (v : StorageView) → HasBeenFilled parts page v → CanBeUsed parts page v
+pub usable : (parts : Parts) (page : ℕ) (v : StorageView) → HasBeenFilled parts page v → CanBeUsed parts page v
 usable parts page v can = record { tells = can.tells; hinted = is_used parts page can.has.tag can.has.below can.has.tagged; usage = can.used; filled = can.filled }
 
 missed-says : (parts : Parts) (page : ℕ) (v w : StorageView) (d e : DiskView) (a : Parts) (missed : Missed) → page < length parts.pages.infos → MissOutcome parts page v d a missed w e
@@ -283,6 +285,35 @@ resolve-says parts page slot index writable v d a r w e can run =
       hinted-is middle page found a w k.rehinted,
     )
     of PlaceGone k = discarded-is parts page v w d e a can.has.below k
+    of (PlaceAgain why) (tables, may, misses, disk) = (tables, misses)
+
+-- an entry is cleared
+
+unmapped-writers : (parts : Parts) (slot index : ℕ) (pte : Pte) → pte.page < length parts.pages.infos
+    → (info_at (unmapped parts slot index pte).pages pte.page).writers ≡ (info_at parts.pages pte.page).writers - one_if pte.writable
+unmapped-writers parts slot index pte below = ap (λ (i : PageInfo). i.writers) (change-unmapped parts slot index pte below).here
+
+writers-after : (parts : Parts) (page : ℕ) (changed : Bool) → page < length parts.pages.infos → (info_at (with_change parts page changed).pages page).writers ≡ (info_at parts.pages page).writers
+writers-after parts page true below = ap (λ i. i.writers) (change-changed parts page true below).here
+writers-after parts page false below = refl
+
+pub clear-says : (parts : Parts) (slot index : ℕ) (pte : Pte) (v : StorageView) (d : DiskView) (a : Parts) (r : Placed) (w : StorageView) (e : DiskView)
+    → HasBeenFilled parts pte.page v → Seen (clear_entry parts slot index pte) v d (a, r) w e → ClearAnswer parts slot index pte v a r w
+clear-says parts slot index pte v d a r w e can run =
+    of r (seen_clear_entry parts slot index pte v d a r w e (usable parts pte.page v can) (is_used_unmapped parts slot index pte can.has.tag can.has.below can.has.tagged) run)
+  where
+    middle : Parts
+    middle = unmapped parts slot index pte
+
+    of : (r : Placed) → ClearOutcome parts slot index pte v d a r w e → ClearAnswer parts slot index pte v a r w
+    of PlaceDone (found, k) = (
+      ap (λ q. q.maps) k.rehinted.tables ∙ maps-after middle pte.page found.changed ∙ maps-unmapped parts slot index pte,
+      ap (λ q. (info_at q.pages pte.page).writers) k.rehinted.tables
+          ∙ writers-after middle pte.page found.changed (rw (change-unmapped parts slot index pte can.has.below).size can.has.below)
+          ∙ unmapped-writers parts slot index pte can.has.below,
+      hinted-is middle pte.page found a w k.rehinted,
+    )
+    of PlaceGone k = discarded-is parts pte.page v w d e a can.has.below k
     of (PlaceAgain why) (tables, may, misses, disk) = (tables, misses)
 
 -- ---- a page that is filled

@@ -45,7 +45,7 @@ LookOutcome parts page cpu v d a (IsLocked owner) w e = ⊥
 LookOutcome parts page cpu v d a (SyncAgain why) w e = (a ≡ parts) × AllMay v d w e × Misses v w × (e ≡ d)
 
 -- a page that is clean after its change bit moved into what is known of it was clean before, and unchanged
-clean_before : (parts : Parts) (page : ℕ) (changed : Bool) → page < length parts.pages.infos → (info_at (with_change parts page changed).pages page).dirty ≡ false → changed ≡ false
+pub clean_before : (parts : Parts) (page : ℕ) (changed : Bool) → page < length parts.pages.infos → (info_at (with_change parts page changed).pages page).dirty ≡ false → changed ≡ false
 unfolding with_dirty
 clean_before parts page true below clean =
     let bad : true ≡ false = sym (ap (λ q. q.dirty) (info_at-with_info_same parts.pages page (record (info_at parts.pages page) { dirty = true }) below)) ∙ clean in cc

@@ -1,5 +1,5 @@
 use Rattle.cmm_flat.specs.Legal.{flat_of}
-use Rattle.guest_rules.proofs.Ready.AnswerReady.{shown-ready, fill-ready, write_back-ready}
+use Rattle.guest_rules.proofs.Ready.AnswerReady.{shown-ready, fill-ready, write_back-ready, page_out-ready, go-ready, clear-ready}
 use Rattle.guest_rules.proofs.laws.pages_are_ready_between_turns.Goals as goal
 
 pub returns-clause-filled : goal.returns-clause-filled
@@ -10,4 +10,14 @@ pub returns-clause-fills : goal.returns-clause-fills
 returns-clause-fills c g v d cpu page fit phase = fill-ready (flat_of g.plan g.journal) g v d cpu page fit phase
 
 pub returns-clause-writes : goal.returns-clause-writes
-returns-clause-writes c g v d cpu index page fit phase = write_back-ready (flat_of g.plan g.journal) g v d cpu index page fit (fit.locks.writing cpu index page phase)
+returns-clause-writes c g v d cpu index page fit phase = write_back-ready (flat_of g.plan g.journal) g v d cpu index page fit phase
+
+pub returns-clause-pages_out : goal.returns-clause-pages_out
+returns-clause-pages_out c g v d cpu page fit phase = page_out-ready (flat_of g.plan g.journal) g v d cpu page fit phase
+
+pub returns-clause-may_go : goal.returns-clause-may_go
+returns-clause-may_go c g v d page tag fit below tagged uptodate =
+    go-ready (flat_of g.plan g.journal) g v d page tag fit (record { below = below; tagged = tagged; uptodate = uptodate })
+
+pub returns-clause-clears : goal.returns-clause-clears
+returns-clause-clears c g v d cpu slot index pte fit phase entry = clear-ready (flat_of g.plan g.journal) g v d cpu slot index pte fit phase entry

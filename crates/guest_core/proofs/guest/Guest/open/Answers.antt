@@ -1,12 +1,21 @@
-use Rattle.std.proofs.Common.{map, replicate, sym, ap, subst, ◌∙◌}
+use Rattle.std.proofs.Common.{◌≡◌, map, sum, replicate, sym, ap, subst, ◌∙◌, arith}
+use Rattle.std.proofs.lemmas.List.Sums.{sum-map}
 use Rattle.cmm_types.specs.declared.plan.TheConstants.{MAX_MAPPING_SLOTS}
 use Rattle.cmm_types.specs.declared.plan.FilePlan.{FilePlan}
+use Rattle.cmm_types.specs.Laws.RangeLaws.{blocks_bound}
 use Rattle.guest_cache.specs.CacheView.{opening_cache}
 use Rattle.guest_rules.specs.GuestState.{first_processor}
 use Rattle.guest_rules.specs.Fit.{Fit}
 use Rattle.guest_rules.proofs.Opening.Opening.{Fit-opening}
 use Rattle.guest_core.proofs.Opened.{all_at_start, opened}
 use Rattle.guest_core.proofs.guest.Guest.open.Goals as goal
+
+pub open-requires-2-clause-blocks : goal.open-requires-2-clause-blocks
+open-requires-2-clause-blocks c =
+    let pages : c.deref.result.now ≡ map (λ (file : FilePlan). file.pages) c.args.plan.now.files =
+    c.deref.ensures.value ∙ c.in_ok-files.ensures ∙ ap (λ files. map (λ (file : FilePlan). file.pages) files) c.as_slice.ensures
+    in
+    omega (arith, ap sum pages, sum-map (λ (file : FilePlan). file.pages) c.args.plan.now.files, blocks_bound c.args.plan.now c.requires.range)
 
 pub returns-clause-opening : goal.returns-clause-opening
 returns-clause-opening c =

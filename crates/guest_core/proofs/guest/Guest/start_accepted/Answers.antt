@@ -1,8 +1,8 @@
 use Rattle.std.proofs.Common.{true, false, refl, ap, subst, ◌∙◌}
 use Rattle.cmm_flat.specs.Legal.{process_of}
 use Rattle.guest_rules.proofs.Cases.TurnCases.{Starts, wanted_tag}
-use Rattle.guest_core.proofs.Commands.{load-looks_up, store-looks_up, pin-looks_up, load-reaches, store-reaches, place-reaches, new-mapping, slot-free, sync-begins}
-use Rattle.guest_core.proofs.OtherTurns.{same_run, accepted-read, accepted-write, accepted-map, accepted-load, accepted-store, new-fresh, accepted-pin, accepted-unpin, accepted-sync}
+use Rattle.guest_core.proofs.Commands.{load-looks_up, store-looks_up, pin-looks_up, load-reaches, store-reaches, place-reaches, new-mapping, slot-free, sync-begins, unmap-looks_up}
+use Rattle.guest_core.proofs.OtherTurns.{same_run, accepted-read, accepted-write, accepted-map, accepted-load, accepted-store, new-fresh, accepted-pin, accepted-unpin, accepted-sync, accepted-unmap}
 use Rattle.guest_core.proofs.guest.Guest.start_accepted.Goals as goal
 
 -- ---- a read, and a write
@@ -43,6 +43,18 @@ returns-in-MapFile g c =
     record {
       row = same_run g.St.Storage.step c.args.st.now c.args.st.now c.map_turn.new.self c.map_turn.result _ _
           (accepted-map c.args.self.now c.args.cpu c.args.op.now _ _ _ _ _ c.in-MapFile.is ∙ c.map_turn.ensures.row) (refl, refl, refl);
+    }
+
+-- ---- a mapping's end
+
+pub unmap_turn-requires-clause-looks_up : goal.unmap_turn-requires-clause-looks_up
+unmap_turn-requires-clause-looks_up g c = unmap-looks_up c.args.self.now _ c.requires.fit c.args.cpu c.args.op.now _ c.requires.starts.has c.in-Unmap.is
+
+pub returns-in-Unmap : goal.returns-in-Unmap
+returns-in-Unmap g c =
+    record {
+      row = same_run g.St.Storage.step c.args.st.now c.args.st.now c.unmap_turn.new.self c.unmap_turn.result _ _
+          (accepted-unmap c.args.self.now c.args.cpu c.args.op.now _ c.in-Unmap.is ∙ c.unmap_turn.ensures.row) (refl, refl, refl);
     }
 
 -- ---- a load, and a store

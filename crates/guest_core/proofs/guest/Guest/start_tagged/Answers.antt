@@ -1,9 +1,13 @@
 use Rattle.std.proofs.Common.{sym, ◌∙◌}
-use Rattle.guest_core.proofs.Ready.{is_tag, found_takes, next_begins, next_there}
+use Rattle.guest_rules.proofs.Ready.ReadyCalls.{full-can}
+use Rattle.guest_core.proofs.Ready.{is_tag, found_takes, next_begins, next_there, none_free}
 use Rattle.guest_core.proofs.guest.Guest.start_tagged.Goals as goal
 
 pub page_with-requires : goal.page_with-requires
 page_with-requires g c = is_tag c.args.self.now _ c.args.cpu c.args.op.now c.args.tag c.requires.fit c.requires.starts c.requires.wants
+
+pub room_turn-requires-clause-can : goal.room_turn-requires-clause-can
+room_turn-requires-clause-can g c = full-can c.args.self.now _ c.requires.fit.0 c.requires.fit.1 (none_free c.args.self.now c.next_free.result c.next_free.ensures c.in-None-next_free.is)
 
 pub begin_turn-requires-clause-begins : goal.begin_turn-requires-clause-begins
 begin_turn-requires-clause-begins g c =

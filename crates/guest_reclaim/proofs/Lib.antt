@@ -1,0 +1,4 @@
+pub mod Finding
+pub mod Slots
+pub mod Changed
+pub mod ThreePages

@@ -1,0 +1,70 @@
+-- Every run of an unmap that takes its pages off is one of its cases.
+use Rattle.std.specs.Prelude.{◌≡◌, ℕ, Option, Some, None, refl}
+use Rattle.std.proofs.Common.{ap, sym, subst, ◌∙◌, arith}
+use Rattle.cmm_types.specs.declared.turn.Turn.{Turn}
+use Rattle.cmm_flat.specs.State.{FlatState}
+use Rattle.cmm_io.specs.DiskView.{DiskView}
+use Rattle.cmm_storage.specs.StorageView.{StorageView}
+use Rattle.cmm_storage.specs.Views.{Seen, unbind}
+use Rattle.guest_maps.specs.declared.slot.Pte.{Pte}
+use Rattle.guest_maps.specs.MapsView.{entry_at}
+use Rattle.guest_rules.specs.declared.parts.Parts.{Parts}
+use Rattle.guest_rules.specs.declared.processor.Phase.TheVariants.{Teardown}
+use Rattle.guest_rules.specs.declared.outcome.Placed.{Placed}
+use Rattle.guest_rules.specs.declared.outcome.Placed.TheVariants.{Done as PlaceDone, Gone as PlaceGone, Again as PlaceAgain}
+use Rattle.guest_rules.specs.Rows.{clear_entry}
+use Rattle.guest_rules.specs.GuestState.{GuestState, processor_at, with_parts}
+use Rattle.guest_rules.specs.Turns.{mapping_pages, torn_past, torn_next, teardown_entry, teardown_shown, teardown_in, teardown_turn}
+use Rattle.guest_rules.specs.Fit.{FitAt, IsEntry, IsTearing}
+use Rattle.guest_rules.proofs.Cases.TurnCases.{ShowsPage, Tears, TearsPast, TearCase, had_no_entry, tear_missed, tear_gone, was_cleared_at}
+use Rattle.guest_rules.proofs.Kept.PageFits.{tagged-below}
+use Rattle.guest_rules.proofs.Ready.Ready.{can_be_shown, lost_unlocked}
+use Rattle.guest_rules.proofs.Rows.ClearEntry.{ClearOutcome, is_used_unmapped, seen_clear_entry}
+
+-- the page that an entry of the mapping shows
+pub torn_page : (state : FlatState) (g : GuestState) (v : StorageView) (d : DiskView) (cpu slot index : ℕ) (pte : Pte) → FitAt state g v d → IsTearing g cpu slot index
+    → entry_at g.parts.maps slot index ≡ Some pte → (is : IsEntry g.parts slot index pte) × ShowsPage g is.tag pte.page
+torn_page state g v d cpu slot index pte f k at =
+    let is = f.entries.entry slot index pte (omega (arith, k.within, (f.slots.shown slot k.mapping k.at).0)) at in
+    (is, record { below = tagged-below g.parts.pages pte.page is.tag is.tagged; tagged = is.tagged; uptodate = is.uptodate })
+
+-- the mapping has so many pages
+past : (g : GuestState) (cpu slot index : ℕ) (k : IsTearing g cpu slot index) (after : Parts) (h : GuestState) (t : Turn)
+    → ◌≡◌ {A = GuestState × Turn} (h, t) (torn_past (with_parts g after) cpu slot index k.mapping.count) → TearsPast g cpu slot index after h t
+past g cpu slot index k after h t is = is ∙ ap (λ o. torn_past (with_parts g after) cpu slot index (mapping_pages o)) (sym k.at)
+
+case_cleared : (state : FlatState) (g : GuestState) (v n w : StorageView) (d y e : DiskView) (cpu slot index : ℕ) (pte : Pte) (parts : Parts) (r : Placed) (h : GuestState) (t : Turn)
+    → FitAt state g v d → (k : Tears g cpu slot index) → entry_at g.parts.maps slot index ≡ Some pte → ClearOutcome g.parts slot index pte v d parts r n y
+    → Seen {A = GuestState × Turn} (torn_next g cpu slot index k.tearing.mapping.count parts r) n y (h, t) w e → TearCase g cpu slot index v d h t w e
+case_cleared state g v n w d y e cpu slot index pte parts PlaceDone h t f k at (found, is) (ea, em, ed) =
+    let its = torn_page state g v d cpu slot index pte f k.tearing at in
+    was_cleared_at its.0.tag pte found parts k at its.1 (rw (em, ed) is.back) is.may (rw em is.rehinted) (past g cpu slot index k.tearing parts h t ea)
+case_cleared state g v n w d y e cpu slot index pte parts PlaceGone h t f k at o (ea, em, ed) =
+    let its = torn_page state g v d cpu slot index pte f k.tearing at in
+    tear_gone its.0.tag pte o.found k at (lost_unlocked state g v d pte.page its.0.tag o.found f its.1 o.may o.lost) (rw (em, ed) o.back) o.may o.lost (rw em o.unused)
+    (subst (λ q. TearsPast g cpu slot index q h t) o.tables (past g cpu slot index k.tearing parts h t ea))
+case_cleared state g v n w d y e cpu slot index pte parts (PlaceAgain why) h t f k at (tables, may, misses, disk) (ea, em, ed) =
+    tear_missed why k (ap (λ q. q.0) ea ∙ ap (λ q. with_parts g q) tables) (ap (λ q. q.1) ea) (rw (em, ed) may) (rw em misses) (ed ∙ disk)
+
+case_entry : (state : FlatState) (g : GuestState) (v w : StorageView) (d e : DiskView) (cpu slot index : ℕ) (pte : Option Pte) (h : GuestState) (t : Turn)
+    → FitAt state g v d → (k : Tears g cpu slot index) → entry_at g.parts.maps slot index ≡ pte
+    → Seen {A = GuestState × Turn} (teardown_entry g cpu slot index k.tearing.mapping.count pte) v d (h, t) w e → TearCase g cpu slot index v d h t w e
+case_entry state g v w d e cpu slot index None h t f k at (ea, em, ed) = had_no_entry k at (past g cpu slot index k.tearing g.parts h t ea) em ed
+case_entry state g v w d e cpu slot index (Some pte) h t f k at run =
+    let its = torn_page state g v d cpu slot index pte f k.tearing at in
+    let x = unbind (clear_entry g.parts slot index pte) (λ went. torn_next g cpu slot index k.tearing.mapping.count went.0 went.1) v d (h, t) w e run in
+    let used = is_used_unmapped g.parts slot index pte its.0.tag its.1.below its.1.tagged in
+    let o = seen_clear_entry g.parts slot index pte v d x.answer.0 x.answer.1 x.storage x.disk (can_be_shown state g v d pte.page its.0.tag f its.1) used x.first in
+    case_cleared state g v x.storage w d x.disk e cpu slot index pte x.answer.0 x.answer.1 h t f k at o x.second
+
+pub case_tear : (state : FlatState) (g : GuestState) (v w : StorageView) (d e : DiskView) (cpu slot index : ℕ) (h : GuestState) (t : Turn)
+    → FitAt state g v d → (processor_at g cpu).phase ≡ Teardown slot index → Seen {A = GuestState × Turn} (teardown_turn g cpu slot index) v d (h, t) w e → TearCase g cpu slot index v d h t w e
+unfolding teardown_turn
+case_tear state g v w d e cpu slot index h t f phase run =
+    let k = f.teardowns.tearing cpu slot index phase in
+    let shown = (f.slots.shown slot k.mapping k.at).1 in
+    let in_slot : Seen {A = GuestState × Turn} (teardown_shown g cpu slot index k.mapping.count k.mapping.shown) v d (h, t) w e =
+    subst (λ o. Seen {A = GuestState × Turn} (teardown_in g cpu slot index o) v d (h, t) w e) k.at run in
+    let of_file : Seen {A = GuestState × Turn} (teardown_entry g cpu slot index k.mapping.count (entry_at g.parts.maps slot index)) v d (h, t) w e =
+    subst (λ s. Seen {A = GuestState × Turn} (teardown_shown g cpu slot index k.mapping.count s) v d (h, t) w e) shown.3 in_slot in
+    case_entry state g v w d e cpu slot index (entry_at g.parts.maps slot index) h t f (record { phase = phase; tearing = k }) refl of_file

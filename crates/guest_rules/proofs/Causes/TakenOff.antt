@@ -1,0 +1,54 @@
+-- What the tables are once a page was taken off a mapping that is torn down: its place has no entry, and the slots are as they were.
+use Rattle.std.proofs.Common.{◌≡◌, ℕ, Some, None, cond, refl, ap, ◌∙◌}
+use Rattle.std.proofs.lemmas.Bool.{eq-eqb}
+use Rattle.cmm_types.specs.declared.command.Op.TheVariants.{Unmap}
+use Rattle.cmm_flat.specs.Legal.{flat_of}
+use Rattle.cmm_io.specs.DiskView.{DiskView}
+use Rattle.essa_state.specs.PageValue.{PageValue}
+use Rattle.cmm_storage.specs.StorageView.{StorageView}
+use Rattle.guest_maps.specs.declared.slot.Pte.{Pte}
+use Rattle.guest_maps.specs.MapsView.{MapsView, entry_at, unless_shows, with_entry}
+use Rattle.guest_maps.specs.Laws.MapsLaws.{slots-with_entry, slots-without_entries_of, entry_at-without_entries_of}
+use Rattle.guest_rules.specs.declared.parts.Parts.{Parts}
+use Rattle.guest_rules.specs.GuestState.{GuestState}
+use Rattle.guest_rules.specs.Rows.{handled, unmapped}
+use Rattle.guest_rules.specs.Fit.{Fit}
+use Rattle.guest_rules.proofs.Cases.TurnCases.{Has, Tears, IsRehinted}
+use Rattle.guest_rules.proofs.Kept.EntryLaws.{entry_at-set}
+use Rattle.guest_rules.proofs.Kept.EntriesKept.{HasEntry, has_entry-within}
+use Rattle.guest_rules.proofs.Fit.StepTorn.{torn-has_entry}
+use Rattle.guest_rules.proofs.Kept.RowChanges.{handled-maps, freed-maps, maps-changed, maps-unmapped}
+
+pub record IsTakenOff (g : GuestState) (slot index : ℕ) (after : Parts) : Type 0 where
+  pub cleared : entry_at after.maps slot index ≡ None
+  pub slots : after.maps.slots ≡ g.parts.maps.slots
+
+-- the page that the entry showed was discarded
+pub taken-handled : (g : GuestState) (slot index : ℕ) (pte : Pte) → entry_at g.parts.maps slot index ≡ Some pte → IsTakenOff g slot index (handled g.parts pte.page)
+taken-handled g slot index pte entry =
+    let maps = handled-maps g.parts pte.page ∙ freed-maps g.parts pte.page in
+    record {
+      cleared = ap (λ m. entry_at m slot index) maps
+          ∙ entry_at-without_entries_of g.parts.maps pte.page slot index
+          ∙ ap (unless_shows pte.page) entry
+          ∙ ap (λ b. cond b None (Some pte)) (eq-eqb pte.page pte.page refl);
+      slots = ap (λ (m : MapsView). m.slots) maps ∙ slots-without_entries_of g.parts.maps pte.page;
+    }
+
+-- the entry was cleared
+pub taken-cleared : (g : GuestState) (v w : StorageView) (d : DiskView) (cpu slot index : ℕ) (pte : Pte) (found : PageValue) (after : Parts) → Fit g v d → Tears g cpu slot index
+    → entry_at g.parts.maps slot index ≡ Some pte → IsRehinted (unmapped g.parts slot index pte) pte.page found after (w.values pte.page) → IsTakenOff g slot index after
+taken-cleared g v w d cpu slot index pte found after f k entry told = record {
+  cleared = ap (λ m. entry_at m slot index) maps ∙ entry_at-set g.parts.maps slot index None (has_entry-within g.parts slot index pte has);
+  slots = ap (λ (m : MapsView). m.slots) maps ∙ slots-with_entry g.parts.maps slot index None;
+}
+  where
+    has : HasEntry g.parts slot index pte
+    has = torn-has_entry (flat_of g.plan g.journal) g cpu slot index pte f.slots k.tearing entry
+
+    maps : after.maps ≡ with_entry g.parts.maps slot index None
+    maps = ap (λ (q : Parts). q.maps) told.tables ∙ maps-changed (unmapped g.parts slot index pte) pte.page found.changed ∙ maps-unmapped g.parts slot index pte
+
+-- the processor's command
+pub tearing_has : (g : GuestState) (cpu slot index : ℕ) → (k : Tears g cpu slot index) → Has g cpu (Unmap k.tearing.number)
+tearing_has g cpu slot index k = record { below = k.tearing.cpu_below; command = k.tearing.command }
