@@ -20,9 +20,9 @@ fn words_of(rt: &HostRuntime) -> Result<Vec<String>, AllocError> {
     }
 }
 
-/// Replays from standard input to standard output. The status tells of a failed read exactly where one was counted,
-/// and of a failed write likewise.
-fn replay(rt: &HostRuntime, words: &[String]) -> Status {
+/// Does what the words ask for, from standard input to standard output. The status tells of a failed read exactly
+/// where one was counted, and of a failed write likewise.
+fn serve(rt: &HostRuntime, words: &[String]) -> Status {
     let mut source = StdSource::new(rt.stdin());
     let mut sink = StdSink::new(rt.stdout());
     let status = cmm2_replay(rt.alloc(), words, &mut source, &mut sink);
@@ -35,7 +35,7 @@ fn replay(rt: &HostRuntime, words: &[String]) -> Status {
 
 fn main(rt: HostRuntime) -> ExitCode {
     let status = match words_of(&rt) {
-        Ok(words) => replay(&rt, words.as_slice()),
+        Ok(words) => serve(&rt, words.as_slice()),
         Err(_) => Status::NoMemory,
     };
     ExitCode::from(status.code())

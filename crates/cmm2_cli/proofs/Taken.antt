@@ -1,14 +1,14 @@
 -- Which bytes of an input were taken, of one that is told and of one that isn't.
-use Rattle.std.specs.Prelude.{◌≡◌, ◌⊎◌, ℕ, ◌+◌, ◌<◌, ◌≤◌, List, ◌++◌, length, take, Option, Some, None, IfSome, refl}
+use Rattle.std.specs.Prelude.{◌≡◌, ◌⊎◌, ℕ, ◌+◌, ◌≤◌, List, [], length, take, Option, Some, None, IfSome, refl}
 use Rattle.std.proofs.Common.{◌∙◌, inl, inr, sym, ap, subst, arith}
 use Rattle.std.specs.Io.KnownBytes.{Consumes}
 use Rattle.std.proofs.Math.Seq.{take-append_seam}
 use Rattle.std.proofs.lemmas.List.{length-append, take_all}
-use Rattle.cmm_io.specs.SourceBytes.{HasTaken, HasTakenCount, HasTakenAtMost, IsRest}
+use Rattle.cmm_io.specs.SourceBytes.{HasTaken, HasTakenCount, IsRest}
 use Rattle.cmm2_cli.specs.declared.replay.TheConstants.{MAX_INPUT}
 use Rattle.cmm2_cli.specs.declared.refusal.Refusal.TheVariants.{Long}
 use Rattle.cmm2_cli.specs.declared.status.Status.{Status}
-use Rattle.cmm2_cli.specs.declared.status.Status.TheVariants.{ScenarioRefused, ReadFault}
+use Rattle.cmm2_cli.specs.declared.status.Status.TheVariants.{ScenarioRefused, ReadFault, NoMemory}
 use Rattle.cmm2_cli.specs.Refusal.{refusal_text}
 use Rattle.cmm2_cli.specs.Outcome.{Answers, AnswersBytes, taken_of, RefusesLong, AnswersWhole, AnswersInput, AnswersSome}
 
@@ -77,3 +77,16 @@ module _ {S : Type 0} (rest : S → Option (List ℕ)) (given : S → ℕ) (befo
   pub whole_some : (read : List ℕ) (result : Status) → length read ≤ MAX_INPUT → HasTaken rest given before after read → AnswersBytes faults written old new read result
       → AnswersSome rest given before after faults written old new result
   whole_some read result few taken answer = inr (read, inr (inl (Whole read result few taken answer)))
+
+nothing_lost : (known : Option (List ℕ)) → Consumes known known []
+nothing_lost None = tt
+nothing_lost (Some bytes) = refl
+
+-- what an input is answered, where memory ran out before anything was read
+pub none_answer : {S : Type 0} (rest : S → Option (List ℕ)) (given : S → ℕ) (src : S) {K : Type 0} (faults : K → ℕ) (written : K → Option (List ℕ)) (out : K) (result : Status) → result ≡ NoMemory
+    → IfSome (rest src) (λ bytes. (result ≡ ReadFault) ⊎ AnswersInput rest given src src faults written out out bytes result)
+none_answer rest given src faults written out result is =
+    if_some (rest src) _ (λ bytes told. inr (inr (inr (record {
+      taken = ([], omega arith, record { lost = nothing_lost (rest src); counted = omega arith });
+      answer = record { status = is; same = refl };
+    }))))

@@ -1,5 +1,5 @@
 -- What the program answers to its words and its input, what it reads of the input, and what it writes.
-use Rattle.std.specs.Prelude.{◌≡◌, ◌⊎◌, ℕ, ◌+◌, ◌<◌, ◌≤◌, List, [], ◌∷◌, length, take, codes, false, Option, Result, Ok, Err}
+use Rattle.std.specs.Prelude.{◌≡◌, ◌⊎◌, ℕ, ◌+◌, ◌<◌, ◌≤◌, List, ◌++◌, length, take, codes, false, Option, Result, Ok, Err}
 use Rattle.std.specs.Io.KnownBytes.{Appends}
 use Rattle.cmm_types.specs.declared.plan.Scenario.{Scenario}
 use Rattle.cmm_io.specs.Faults.{raised}
@@ -8,6 +8,8 @@ use Rattle.cmm_io.specs.SinkBytes.{AppendsFront}
 use Rattle.cmm_scenario.specs.declared.error.ScenarioError.{ScenarioError}
 use Rattle.cmm_scenario.specs.declared.error.ScenarioError.TheVariants as errors
 use Rattle.cmm_scenario.specs.Scenario.{scenario_of}
+use Rattle.cmm_generate.specs.Generated.{generated}
+use Rattle.cmm_generate.specs.Text.{scenario_text}
 use Rattle.cmm_report.specs.Report.{report_of}
 use Rattle.cmm_world.specs.Built.{IsBuilt}
 use Rattle.cmm_world.specs.Run.{run_of}
@@ -19,9 +21,9 @@ use Rattle.cmm2_cli.specs.declared.status.Status.TheVariants.{Done, ScenarioRefu
 use Rattle.cmm2_cli.specs.Refusal.{refusal_text, fault_text}
 use Rattle.cmm2_cli.specs.Reports.{reports_of}
 
--- the one command line
-abbrev pub IsReplay : List (List ℕ) → Type 0
-IsReplay words = words ≡ codes "replay" ∷ []
+-- the text of the scenario that is generated from a number, and a line feed
+abbrev pub generated_text : (start size : ℕ) → List ℕ
+generated_text start size = scenario_text (generated start size) ++ codes "\n"
 
 module _ {K : Type 0} (faults : K → ℕ) (written : K → Option (List ℕ)) (old new : K) where
   -- the whole text was written behind what was written before
@@ -83,7 +85,7 @@ module _ {S : Type 0} (rest : S → Option (List ℕ)) (given : S → ℕ) (befo
     pub taken : HasTaken rest given before after (taken_of bytes)
     pub answer : AnswersBytes faults written old new bytes result
 
-  -- memory ran out while it was read
+  -- memory ran out before all of it was read
   pub record ReadsNoMore (result : Status) : Type 0 where
     pub taken : HasTakenAtMost rest given before after (MAX_INPUT + 1)
     pub answer : WroteNothing faults written old new NoMemory result

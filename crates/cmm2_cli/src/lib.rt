@@ -2,6 +2,8 @@
 #![tactic(auto)]
 
 mod fault;
+mod generated;
+mod program;
 mod refusal;
 mod replay;
 mod report;
@@ -9,6 +11,7 @@ mod status;
 #[cfg(test)]
 mod tests;
 
-pub use replay::{MAX_INPUT, cmm2_replay};
+pub use program::cmm2_replay;
+pub use replay::MAX_INPUT;
 pub use report::write_replay;
 pub use status::Status;

@@ -1,4 +1,4 @@
-ghost use Rattle.std.specs.Prelude.{◌≡◌, ◌≢◌, ◌⊎◌, ◌↔◌, map, string_bytes, IsTrue, IfSome, false};
+ghost use Rattle.std.specs.Prelude.{◌≡◌, ◌≢◌, ◌⊎◌, IfSome, false};
 ghost use Rattle.std.specs.Io.KnownBytes.{IsAtEnd};
 ghost use Rattle.cmm_types.specs.InRange.{ScenarioInRange};
 ghost use Rattle.cmm_world.specs.Built.{IsBuilt};
@@ -7,7 +7,7 @@ ghost use Rattle.cmm_io.specs.SourceBytes.{HasTakenAtMost};
 ghost use Rattle.cmm_report.specs.Report.{report_of};
 ghost use Rattle.cmm2_cli.specs.Reports.{reports_of};
 ghost use Rattle.cmm2_cli.specs.Refusal.{refusal_text, refusal_status, fault_text};
-ghost use Rattle.cmm2_cli.specs.Outcome.{IsReplay, Answers, WroteNothing, Plays, AnswersPlan, AnswersBytes, AnswersInput, AnswersSome};
+ghost use Rattle.cmm2_cli.specs.Outcome.{Answers, WroteNothing, Plays, AnswersPlan, AnswersBytes, AnswersInput, AnswersSome};
 
 use crate::fault::write_fault;
 use crate::refusal::{Refusal, kind_end};
@@ -22,22 +22,7 @@ use std::alloc::Global;
 /// The most bytes of an input.
 pub const MAX_INPUT: usize = 16_777_216;
 
-fn is_same(word: &str, text: &str) -> bool
-    ensures { IsTrue result ↔ (word.now ≡ text.now) }
-{
-    word == text
-}
-
-fn is_replay(words: &[String]) -> bool
-    ensures { IsTrue result ↔ IsReplay (map string_bytes words.now) }
-{
-    match words {
-        [word] => is_same(word.as_str(), "replay"),
-        _ => false,
-    }
-}
-
-fn refuse<K: Sink>(out: &mut K, refusal: Refusal) -> Status
+pub fn refuse<K: Sink>(out: &mut K, refusal: Refusal) -> Status
     ensures { Answers K.faults K.written out.old out.new (refusal_text refusal) (refusal_status refusal) result }
 {
     match write_all(out, refusal.text()) {
@@ -103,17 +88,9 @@ fn answer<K: Sink>(alloc: Global, bytes: &[u8], out: &mut K) -> Status
     }
 }
 
-/// `replay`: reads a scenario, plays its schedule and writes the report.
-pub fn cmm2_replay<S: Source, K: Sink>(
-    alloc: Global,
-    words: &[String],
-    src: &mut S,
-    out: &mut K,
-) -> Status
-    // Other words are refused, and nothing is read.
-    ensures words { ¬ IsReplay (map string_bytes words.now) → Answers K.faults K.written out.old out.new (refusal_text Refusal.Words) Status.Usage result }
-    ensures unread { ¬ IsReplay (map string_bytes words.now) → src.new ≡ src.old }
-    ensures usage { result ≡ Status.Usage → ¬ IsReplay (map string_bytes words.now) }
+/// Reads a scenario, plays its schedule and writes the report.
+pub fn replay_input<S: Source, K: Sink>(alloc: Global, src: &mut S, out: &mut K) -> Status
+    ensures usage { result ≢ Status.Usage }
 
     // Nothing is written after a read that failed, or where memory ran out.
     ensures read_fault { result ≡ Status.ReadFault → (S.faults src.new ≡ raised (S.faults src.old)) × (out.new ≡ out.old) }
@@ -124,17 +101,14 @@ pub fn cmm2_replay<S: Source, K: Sink>(
     ensures no_write_fault { result ≢ Status.WriteFault → K.faults out.new ≡ K.faults out.old }
 
     // Otherwise the input has its answer. All of it is read, or one byte more than the limit.
-    ensures answer { IsReplay (map string_bytes words.now) → IfSome (S.rest src.old) (λ bytes.
+    ensures answer { IfSome (S.rest src.old) (λ bytes.
         (result ≡ Status.ReadFault) ⊎ AnswersInput S.rest S.given src.old src.new K.faults K.written out.old out.new bytes result) }
     ensures read_whole { result ≡ Status.Done → IsAtEnd (S.rest src.new) }
 
     // Also where the source doesn't tell its bytes, the answer is one to some input, of which as many bytes were
     // read.
-    ensures some_input { IsReplay (map string_bytes words.now) → AnswersSome S.rest S.given src.old src.new K.faults K.written out.old out.new result }
+    ensures some_input { AnswersSome S.rest S.given src.old src.new K.faults K.written out.old out.new result }
 {
-    if !is_replay(words) {
-        return refuse(out, Refusal::Words);
-    }
     match read_all(alloc, src, MAX_INPUT) {
         Ok(bytes) => answer(alloc, bytes.as_slice(), out),
         Err(ReadError::TooLong) => refuse(out, Refusal::Long),

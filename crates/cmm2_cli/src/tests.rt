@@ -186,3 +186,21 @@ fn a_sink_that_fails_at_a_write_has_the_lines_before(rt: HostRuntime) -> Result<
     assert_eq!(rt; whole_lines, 13);
     Ok(())
 }
+
+#[test]
+fn gen_reads_nothing(rt: HostRuntime) -> Result<(), Fail> {
+    let name = String::from_str(rt.alloc(), "gen")?;
+    let start = String::from_str(rt.alloc(), "7")?;
+    let size = String::from_str(rt.alloc(), "8")?;
+    let words = vec![in rt.alloc(); name, start, size]?;
+    for (failing_write, wanted) in [(0, Status::Done), (1, Status::WriteFault)] {
+        // The first read would fail.
+        let mut src = source(rt.alloc(), SMALLEST, 1)?;
+        let mut out = sink(rt.alloc(), failing_write)?;
+        let status = cmm2_replay(rt.alloc(), words.as_slice(), &mut src, &mut out);
+        assert_eq!(rt; status, wanted);
+        assert_eq!(rt; src.faults(), 0);
+        assert_eq!(rt; out.bytes().is_empty(), failing_write == 1);
+    }
+    Ok(())
+}
