@@ -1,5 +1,5 @@
 -- What an assigned and a released swap slot do to the table of swap slots.
-use Rattle.std.proofs.Common.{◌≡◌, ◌≢◌, ℕ, ◌+◌, ◌*◌, ◌<◌, ◌≤◌, Bool, true, false, cond, nat_lt, List, length, get_or, slice_set, slice_index_or, replicate, Option, None, Some, is_none, refl, ap, sym, ◌∙◌, arith, inl, inr}
+use Rattle.std.proofs.Common.{◌≡◌, ◌≢◌, ℕ, ◌+◌, ◌*◌, ◌<◌, Bool, true, false, cond, nat_lt, List, length, get_or, slice_set, slice_index_or, replicate, Option, None, Some, is_none, refl, ap, sym, ◌∙◌, arith, inl, inr}
 use Rattle.std.specs.List.{position, position_or_len}
 use Rattle.std.proofs.lemmas.List.{length-set, length-replicate, get_or-set_same, get_or-set_other, get_or-replicate, get_or_past}
 use Rattle.std.proofs.lemmas.List.Sums.{position_or_len_is, fails_before_first}
@@ -192,27 +192,3 @@ IsTable-released slots swap table slot index number below within sound its = rec
         ∙ sym (position-none (holds_page slot index) new None (λ k k_below. fails (holds_page slot index (get_or new k None)) (gone k)))
         ∙ ap (λ (q : ℕ). position (holds_page q index) new) (sym one.0)
         ∙ ap (λ (q : ℕ). position (holds_page s q) new) (sym one.1)
-
--- ---- the least free swap slot
-
--- where the slots below a free one are all assigned, it is the least free one
-pub least_free-is : (swap : List (Option Tag)) (number : ℕ) → number < length swap → ((k : ℕ) → k < number → is_none (get_or swap k None) ≡ false) → is_none (get_or swap number None) ≡ true
-    → position is_none swap ≡ Some number
-least_free-is swap number below used free = position-is is_none swap number None below used free
-
-pub least_free-none : (swap : List (Option Tag)) (number : ℕ) → length swap ≤ number → ((k : ℕ) → k < number → is_none (get_or swap k None) ≡ false) → position is_none swap ≡ None
-least_free-none swap number past used = position-none is_none swap None (λ k below. used k (omega arith))
-
--- the slots up to the least free one, once it is assigned
-pub used-assigned : (swap : List (Option Tag)) (tag : Tag) (number k : ℕ) → position is_none swap ≡ Some number → k < number + 1 → is_none (get_or (slice_set swap number (Some tag)) k None) ≡ false
-used-assigned swap tag number k least below =
-    let is = position-Some is_none swap number None least in
-    elim (cases_eq k number) [
-      | inl e ↦ ap (λ q. is_none (get_or (slice_set swap number (Some tag)) q None)) e ∙ ap is_none (get_or-set_same swap number (Some tag) None is.0)
-      | inr apart ↦ ap is_none (get_or-set_other swap number k (Some tag) None apart) ∙ is.2 k (omega arith)
-    ]
-
--- and below a released one
-pub used-released : (swap : List (Option Tag)) (number used k : ℕ) → ((k : ℕ) → k < used → is_none (get_or swap k None) ≡ false) → k < used → k < number
-    → is_none (get_or (slice_set swap number None) k None) ≡ false
-used-released swap number used k all below before = ap is_none (get_or-set_other swap number k None None (λ e. absurd (omega (arith, e, before)))) ∙ all k below

@@ -1,14 +1,16 @@
-ghost use Rattle.std.specs.Prelude.{◌≡◌, ◌≤◌, ◌+◌, ◌<◌, ◌^◌, length, sum, replicate, None, Some, IfOk, IfSome};
+ghost use Rattle.std.specs.Prelude.{◌≡◌, ◌≤◌, ◌+◌, ◌<◌, ◌^◌, length, sum, replicate, None, Some, true, IfOk, IfSome};
 ghost use Rattle.cmm_types.specs.declared.page.Tag.TheVariants.{Anon};
 ghost use Rattle.cmm_types.specs.declared.plan.TheConstants.{MAX_MAPPING_SLOTS};
 ghost use Rattle.guest_cache.specs.CacheView.{IsTag, index_place, page_of, opening_cache, with_page, without_page, IsAnonymous, swap_slot, free_swap, assigned, unassigned, backing_of, pages_before};
 
 use cmm_types::{MAX_MAPPING_PAGES, Tag};
+use marks::Marks;
 use std::alloc::{AllocError, Global};
 use std::marker::Model;
 
 /// Which page has each tag of a guest's files and mapping slots, which swap slot an anonymous page has, and which block
-/// of the guest's disk backs a tag. Every call but `open` and `assign` takes the same time, whatever the number of tags.
+/// of the guest's disk backs a tag. Every call but `open`, `assign` and `least_free` takes the same time, whatever the
+/// number of tags.
 #[derive(Drop)]
 pub struct Cache {
     /// The pages of each file.
@@ -24,12 +26,12 @@ pub struct Cache {
     swap: Vec<Option<Tag>>,
     /// The swap slot of each page of a mapping slot.
     swapped: Vec<Option<u32>>,
-    /// Every swap slot below this one is assigned.
-    used_below: u32,
+    /// The swap slots that are assigned to no tag.
+    free: Marks,
 }
 
 impl Model for Cache {
-    ghost use Rattle.std.specs.Prelude.{◌≡◌, ◌<◌, ◌≤◌, ℕ, ◌+◌, ◌*◌, ◌^◌, sum, length, map, get_or, is_none, None, false};
+    ghost use Rattle.std.specs.Prelude.{◌≡◌, ◌<◌, ◌≤◌, ◌+◌, ◌*◌, ◌^◌, sum, length, map, is_none};
     ghost use Rattle.std.specs.List.{range_with_len};
     ghost use Rattle.cmm_types.specs.declared.command.TheConstants.{MAX_MAPPING_PAGES};
     ghost use Rattle.cmm_types.specs.declared.plan.TheConstants.{MAX_MAPPING_SLOTS};
@@ -46,8 +48,7 @@ impl Model for Cache {
         × (c.slots ≤ MAX_MAPPING_SLOTS)
         × (length c.index.items ≡ sum c.files.items + c.slots * MAX_MAPPING_PAGES)
         × IsSwapIndex c.slots c.swap.items c.swapped.items
-        × (c.used_below ≤ length c.swap.items)
-        × ((number : ℕ) → number < c.used_below → is_none (get_or c.swap.items number None) ≡ false) };
+        × (c.free ≡ map is_none c.swap.items) };
 }
 
 /// A table of so many pages or swap slots, with none yet.
@@ -58,12 +59,23 @@ fn none_yet(alloc: Global, count: usize) -> Result<Vec<Option<u32>>, AllocError>
     Ok(table)
 }
 
-/// So many swap slots, each of them free.
+/// So many swap slots, none of them assigned.
 fn no_tags(alloc: Global, count: usize) -> Result<Vec<Option<Tag>>, AllocError>
     ensures { IfOk result (λ table. table.items ≡ replicate count None) }
 {
     let table = vec![in alloc; None; count]?;
     Ok(table)
+}
+
+/// So many swap slots as marks, each of them free.
+fn all_free(alloc: Global, count: u32) -> Result<Marks, AllocError>
+    ensures { IfOk result (λ free. free ≡ replicate count true) }
+{
+    let mut free = Marks::open(alloc, count as usize)?;
+    for number in 0..count {
+        free.set(number as usize, true);
+    }
+    Ok(free)
 }
 
 impl Cache {
@@ -91,7 +103,7 @@ impl Cache {
             index,
             swap: no_tags(alloc, swap as usize)?,
             swapped: none_yet(alloc, anonymous)?,
-            used_below: 0,
+            free: all_free(alloc, swap)?,
         })
     }
 
@@ -136,8 +148,7 @@ impl Cache {
     }
 
     /// Assigns the least free swap slot to an anonymous page that has none. `None` comes exactly where all swap slots are
-    /// assigned, and then nothing changes. It looks at the swap slots one after another, from one on that none below is
-    /// free.
+    /// assigned, and then nothing changes.
     pub fn assign(&mut self, tag: Tag) -> Option<u32>
         requires tag { IsTag self.old tag }
         requires anonymous { IsAnonymous tag }
@@ -216,18 +227,15 @@ impl Cache {
         self.swapped[(slot * MAX_MAPPING_PAGES + index) as usize]
     }
 
-    /// The least free swap slot; `None` exactly where all swap slots are assigned.
+    /// The least free swap slot; `None` exactly where all swap slots are assigned. Of 65,536 swap slots it looks at no more
+    /// than 64, at 64 blocks of so many, and at 16 groups of so many blocks.
     pub fn least_free(&self) -> Option<u32>
         ensures { result ≡ free_swap self.now }
     {
-        let mut number = self.used_below;
-        while (number as usize) < self.swap.len() {
-            if self.swap[number as usize].is_none() {
-                return Some(number);
-            }
-            number += 1;
+        match self.free.next(0, self.free.len()) {
+            Some(number) => Some(number as u32),
+            None => None,
         }
-        None
     }
 
     /// A swap slot that is the least free one is assigned to an anonymous page that has none.
@@ -240,7 +248,7 @@ impl Cache {
     {
         self.swap[number as usize] = Some(Tag::Anon { slot, index });
         self.swapped[(slot * MAX_MAPPING_PAGES + index) as usize] = Some(number);
-        self.used_below = number + 1;
+        self.free.set(number as usize, false);
     }
 
     /// The swap slot of an anonymous page, if it has one, is free.
@@ -263,8 +271,6 @@ impl Cache {
     {
         self.swap[number as usize] = None;
         self.swapped[(slot * MAX_MAPPING_PAGES + index) as usize] = None;
-        if number < self.used_below {
-            self.used_below = number;
-        }
+        self.free.set(number as usize, true);
     }
 }

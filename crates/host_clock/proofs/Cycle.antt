@@ -1,5 +1,5 @@
--- Positions in lists that are put together, and what is found in a cycle.
-use Rattle.std.proofs.Common.{◌≡◌, ℕ, suc, ◌+◌, ◌-◌, ◌<◌, ◌≤◌, get_or, ⊎_elim, Bool, true, false, not, ◌||◌, ◌&&◌, cond, eqb, nat_lt, List, [], ◌∷◌, ◌++◌, length, take, drop, Option, Some, None, is_some, IfSome, position, refl, sym, ◌∙◌, ap, arith, length-append}
+-- What is found in a cycle of words.
+use Rattle.std.proofs.Common.{◌≡◌, ℕ, suc, ◌+◌, ◌-◌, ◌<◌, ◌≤◌, get_or, ⊎_elim, Bool, true, false, not, ◌||◌, ◌&&◌, cond, nat_lt, List, [], ◌∷◌, length, take, drop, Option, Some, None, is_some, IfSome, position, refl, sym, ◌∙◌, ap, arith}
 use Rattle.std.specs.List.{list_any, position_or_len}
 use Rattle.std.specs.Option.{option_or, option_map}
 use Rattle.std.proofs.lemmas.List.{take-append-drop, take_all, length-drop}
@@ -8,15 +8,11 @@ use Rattle.std.proofs.Math.Bool.{or_comm}
 use Rattle.std.proofs.lemmas.List.Quantifiers.{position-Some}
 use Rattle.std.proofs.lemmas.List.{places}
 use Rattle.std.proofs.lemmas.Grind.{common_steps}
-use Rattle.std.proofs.lemmas.List.Folds.{prefix_len-append, list_any-append}
-use Rattle.std.proofs.lemmas.List.Sums.{prefix_len-le-length}
+use Rattle.std.proofs.lemmas.List.Folds.{list_any-append}
 use Rattle.essa_state.specs.declared.fields.Fields.{Fields}
-use Rattle.host_clock.specs.Victim.{is_candidate, is_takeable, from_hand, wrapped}
-
--- of two lists of which the first has x elements and its first place is p, and the second's is q among y
-joined_places : (p x q y : ℕ) → p ≤ x → cond (nat_lt (cond (eqb p x) (x + q) p) (x + y)) (Some (cond (eqb p x) (x + q) p)) None
-    ≡ option_or (cond (nat_lt p x) (Some p) None) (option_map (λ k. x + k) (cond (nat_lt q y) (Some q) None))
-joined_places p x q y within = grind arith
+use Rattle.host_clock.specs.Victim.{is_candidate, is_takeable, from_hand}
+use Rattle.marks.specs.Marking.{wrapped}
+use Rattle.marks.proofs.Joined.{position-append}
 
 found_behind : (p x : ℕ) → is_some (cond (nat_lt (1 + p) (suc x)) (Some (1 + p)) None) ≡ is_some (cond (nat_lt p x) (Some p) None)
 found_behind p x = grind arith
@@ -37,11 +33,6 @@ one_more false free any_free any h = h
 some_of_two : (a b : Option ℕ) → is_some (option_or a b) ≡ (is_some a || is_some b)
 some_of_two None b = refl
 some_of_two (Some x) b = refl
-
--- the first place in two lists is the first's, or the second's behind the first
-pub position-append : {X : Type 0} (p : X → Bool) (xs ys : List X) → position p (xs ++ ys) ≡ option_or (position p xs) (option_map (λ k. length xs + k) (position p ys))
-position-append p xs ys =
-    rw (prefix_len-append (λ x. not (p x)) xs ys, length-append xs ys) (joined_places (position_or_len p xs) (length xs) (position_or_len p ys) (length ys) (prefix_len-le-length (λ x. not (p x)) xs))
 
 -- the first place in the cycle is the first from the hand on, or else the first before the hand behind all those
 pub cycle_place : (p : Fields → Bool) (words : List Fields) (hand : ℕ) (on before : Option ℕ) → hand ≤ length words → on ≡ position p (take (length words - hand) (drop hand words))

@@ -1,3 +1,1 @@
 pub mod Cycle
-pub mod Marked
-pub mod FirstMarked

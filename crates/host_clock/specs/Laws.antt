@@ -1,2 +1,2 @@
 -- Laws of the definitions beside this folder, which proofs here and in other crates cite. Nobody has to believe them.
-pub mod MarkingLaws
+pub mod VictimLaws

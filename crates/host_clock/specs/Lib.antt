@@ -1,3 +1,2 @@
 pub mod Victim
-pub mod Marking
 pub mod Laws

@@ -1,21 +1,18 @@
-//! The clock by which the host chooses the page that it takes a frame from, and marks by which the chosen page is found
-//! without a look at each. The order is this project's own.
+//! The clock by which the host chooses the page that it takes a frame from. The order is this project's own.
 #![tactic(auto)]
 
 ghost use Rattle.std.specs.Prelude.{◌≡◌, ◌<◌, ◌+◌, length, IfSome, is_some, position, true, false, slice_index_or};
 ghost use Rattle.std.specs.List.{list_any};
 ghost use Rattle.std.specs.Option.{option_or};
 ghost use Rattle.essa_state.specs.declared.fields.Fields.{Fields};
-ghost use Rattle.host_clock.specs.Victim.{is_candidate, is_takeable, from_hand, wrapped, victim_of};
+ghost use Rattle.host_clock.specs.Victim.{is_candidate, is_takeable, from_hand, victim_of};
+ghost use Rattle.marks.specs.Marking.{wrapped};
 
 use cmm_types::Content;
 use essa_state::Word;
 
-mod marks;
 #[cfg(test)]
 mod tests;
-
-pub use marks::Marks;
 
 /// The place of the page to be taken, and the new hand. The page is the first without the reference bit, in cyclic
 /// order from the hand, that is resident and that nobody holds; where each of those was referenced, it is the first

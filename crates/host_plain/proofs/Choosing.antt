@@ -3,9 +3,9 @@ use Rattle.std.specs.Prelude.{◌≡◌, refl, ℕ, zero, suc, ◌+◌, ◌-◌,
 use Rattle.std.proofs.Common.{arith, ap, sym, subst, ◌∙◌}
 use Rattle.std.proofs.lemmas.List.{set-get_or, get_or-map, get_or_default}
 use Rattle.essa_state.specs.declared.fields.Fields.{Fields}
-use Rattle.host_clock.specs.Victim.{is_candidate, wrapped}
-use Rattle.host_clock.specs.Marking.{is_marked, NoneMarked}
-use Rattle.host_clock.specs.Laws.MarkingLaws.{wrapped-same, wrapped-over}
+use Rattle.host_clock.specs.Victim.{is_candidate}
+use Rattle.marks.specs.Marking.{wrapped, is_marked, NoneMarked}
+use Rattle.marks.specs.Laws.MarkingLaws.{wrapped-same, wrapped-over}
 use Rattle.essa_state.specs.StateWord.{opening_word}
 use Rattle.host_plain.specs.Eviction.{aged_words, aged_candidate, word_in}
 use Rattle.host_plain.proofs.Kept.{length-aged_words, aged_words-next}

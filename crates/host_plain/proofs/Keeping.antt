@@ -17,7 +17,8 @@ use Rattle.essa_state.specs.Laws.WordLaws.{moved_permitted}
 use Rattle.essa_state.specs.PageBody.{Body, Makes, moved_body, actual}
 use Rattle.essa_state.specs.PageValue.{MayBecome}
 use Rattle.essa_state.specs.Laws.PageValueLaws.{move-may_become, move-fits, MayBecome-refl, MayBecome-trans}
-use Rattle.host_clock.specs.Victim.{is_candidate, is_takeable, from_hand, wrapped, victim_after, victim_of}
+use Rattle.host_clock.specs.Victim.{is_candidate, is_takeable, from_hand, victim_after, victim_of}
+use Rattle.marks.specs.Marking.{wrapped}
 use Rattle.host_clock.proofs.Cycle.{place_candidate}
 use Rattle.host_plain.specs.declared.moves.ApplyError.TheVariants.{Paging}
 use Rattle.host_plain.specs.MemoryState.{MemoryState, IsMemory, IsPage, IsWholeBody, no_body, word_at, body_at, memory_value_at, with_word, memory_with_page, with_moved, frames_of}

@@ -6,7 +6,8 @@ use Rattle.cmm_io.specs.FailurePlan.{FailurePlan, fails_next, after_next}
 use Rattle.essa_state.specs.declared.fields.Fields.{Fields}
 use Rattle.essa_state.specs.Moves.{reclaiming, aged, brought, discarded, preserved}
 use Rattle.essa_state.specs.PageBody.{moved_body}
-use Rattle.host_clock.specs.Victim.{is_candidate, wrapped, victim_of}
+use Rattle.host_clock.specs.Victim.{is_candidate, victim_of}
+use Rattle.marks.specs.Marking.{wrapped}
 use Rattle.host_plain.specs.MemoryState.{MemoryState, word_at, body_at, with_word, with_moved}
 use Rattle.essa_state.specs.StateWord.{opening_word}
 

@@ -1,14 +1,14 @@
 // The state words of all pages, and what finds the victim among them.
 ghost use Rattle.std.specs.Prelude.{◌≡◌, ◌<◌, ◌+◌, ◌-◌, ◌≤◌, Bool, length, replicate, true, false, IfOk, IfSome, IfNone, slice_index_or, slice_set};
-ghost use Rattle.host_clock.specs.Victim.{is_candidate, is_takeable, wrapped, victim_of};
+ghost use Rattle.host_clock.specs.Victim.{is_candidate, is_takeable, victim_of, chosen_at};
+ghost use Rattle.marks.specs.Marking.{wrapped};
 ghost use Rattle.essa_state.specs.StateWord.{opening_word};
 ghost use Rattle.host_plain.specs.Eviction.{aged_candidate, aged_words};
-ghost use Rattle.host_clock.specs.Marking.{chosen_at};
 ghost use Rattle.host_plain.specs.Candidates.{NoCandidates};
 
 use cmm_types::{Content, MAX_TOTAL_PAGES, Usage};
 use essa_state::{Fields, Word};
-use host_clock::Marks;
+use marks::Marks;
 use std::alloc::{AllocError, Global};
 use std::marker::Model;
 

@@ -1,10 +1,10 @@
-use Rattle.std.proofs.Common.{◌≡◌, ◌<◌, None, Some, sym, subst, arith}
+use Rattle.std.proofs.Common.{◌≡◌, ◌<◌, ◌∙◌, None, Some, sym, subst, arith}
 use Rattle.std.specs.List.{position}
 use Rattle.std.proofs.lemmas.List.{length-set}
-use Rattle.std.proofs.lemmas.List.Quantifiers.{position-Some}
 use Rattle.cmm_types.specs.declared.page.Tag.TheVariants.{Anon}
 use Rattle.guest_cache.specs.CacheView.{CacheView, holds_page, swap_slot}
-use Rattle.guest_cache.proofs.Swaps.{IsTable-released, used-released}
+use Rattle.guest_cache.proofs.Swaps.{IsTable-released}
+use Rattle.guest_cache.proofs.FreeSlots.{free-set}
 use Rattle.guest_cache.proofs.cache.Cache.clear_swap.Goals as goal
 
 pub invariant_of-self : goal.invariant_of-self
@@ -13,7 +13,6 @@ invariant_of-self c =
     let below : c.args.slot < c.self.inside.slots = subst (λ (cache : CacheView). c.args.slot < cache.slots) (sym c.self.view_is) c.requires.slot in
     let its : position (holds_page c.args.slot c.args.index) swap ≡ Some c.args.number =
     subst (λ (cache : CacheView). swap_slot cache (Anon c.args.slot c.args.index) ≡ Some c.args.number) (sym c.self.view_is) c.requires.its in
-    let is = position-Some (holds_page c.args.slot c.args.index) swap c.args.number None its in
     let size = length-set swap c.args.number None in
     let sound = c.self.invariant in (
       sound.0,
@@ -22,24 +21,5 @@ invariant_of-self c =
       sound.3,
       sound.4,
       IsTable-released c.self.inside.slots swap c.self.inside.swapped.items c.args.slot c.args.index c.args.number below c.requires.index sound.5 its,
-      omega (arith, size, is.0),
-      λ number under. used-released swap c.args.number c.self.inside.used_below number sound.7 (omega (arith, under, c.if-number-self.true)) under,
-    )
-
-pub invariant_of-self-else-number-self : goal.invariant_of-self-else-number-self
-invariant_of-self-else-number-self c =
-    let swap = c.self.inside.swap.items in
-    let below : c.args.slot < c.self.inside.slots = subst (λ (cache : CacheView). c.args.slot < cache.slots) (sym c.self.view_is) c.requires.slot in
-    let its : position (holds_page c.args.slot c.args.index) swap ≡ Some c.args.number =
-    subst (λ (cache : CacheView). swap_slot cache (Anon c.args.slot c.args.index) ≡ Some c.args.number) (sym c.self.view_is) c.requires.its in
-    let size = length-set swap c.args.number None in
-    let sound = c.self.invariant in (
-      sound.0,
-      sound.1,
-      omega (arith, size, sound.2),
-      sound.3,
-      sound.4,
-      IsTable-released c.self.inside.slots swap c.self.inside.swapped.items c.args.slot c.args.index c.args.number below c.requires.index sound.5 its,
-      omega (arith, size, sound.6),
-      λ number under. used-released swap c.args.number c.self.inside.used_below number sound.7 under (omega (arith, under, c.if-number-self.false)),
+      c.set.ensures ∙ free-set swap c.self.inside.free c.args.number None sound.6,
     )

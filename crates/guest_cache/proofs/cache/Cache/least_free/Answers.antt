@@ -1,17 +1,18 @@
-use Rattle.std.proofs.Common.{rules, ◌≡◌, ◌<◌, length, get_or, None, is_none, true, sym, ap, arith, ◌∙◌}
-use Rattle.guest_cache.specs.CacheView.{CacheView}
-use Rattle.guest_cache.proofs.Swaps.{least_free-is, least_free-none}
+use Rattle.std.proofs.Common.{◌≡◌, ◌<◌, Some, None, length, ap, subst, ◌∙◌}
+use Rattle.marks.specs.Marking.{NoneMarked}
+use Rattle.guest_cache.specs.CacheView.{CacheView, free_swap}
+use Rattle.guest_cache.proofs.FreeSlots.{free-count, least_free-marked}
 use Rattle.guest_cache.proofs.cache.Cache.least_free.Goals as goal
 
-pub returns-then-is_none : goal.returns-then-is_none
-returns-then-is_none c =
-    let swap : c.self.inside.swap.items ≡ c.args.self.now.swap = ap (λ (cache : CacheView). cache.swap) c.self.view_is in
-    let below : c.loop-number.number < length c.args.self.now.swap = omega (arith, ap length swap, c.loop-number-test.true, c.len.ensures) in
-    let here : is_none (get_or c.args.self.now.swap c.loop-number.number None) ≡ true =
-    ap (λ q. is_none (get_or q c.loop-number.number None)) (sym swap) ∙ (search rules) in
-    sym (least_free-is c.args.self.now.swap c.loop-number.number below c.loop-number.invariant.1 here)
+pub returns-in-Some : goal.returns-in-Some
+returns-in-Some c =
+    let count : c.len.result ≡ length c.self.inside.swap.items = c.len.ensures ∙ free-count c.self.inside.swap.items c.self.inside.free c.self.invariant.6 in
+    let below : c.in-Some.number < length c.self.inside.swap.items = subst (λ n. c.in-Some.number < n) count c.in-Some.ensures.within.1 in
+    least_free-marked c.self.inside.swap.items c.self.inside.free (Some c.in-Some.number) c.self.invariant.6 tt (c.in-Some.ensures.within.0, below) c.in-Some.ensures.marked c.in-Some.ensures.first
+    ∙ ap (λ (cache : CacheView). free_swap cache) c.self.view_is
 
-pub returns : goal.returns
-returns c =
-    let swap : c.self.inside.swap.items ≡ c.args.self.now.swap = ap (λ (cache : CacheView). cache.swap) c.self.view_is in
-    sym (least_free-none c.args.self.now.swap c.loop-number.number (omega (arith, ap length swap, c.loop-number-test.false, c.len.ensures)) c.loop-number.invariant.1)
+pub returns-in-None : goal.returns-in-None
+returns-in-None c =
+    let count : c.len.result ≡ length c.self.inside.swap.items = c.len.ensures ∙ free-count c.self.inside.swap.items c.self.inside.free c.self.invariant.6 in
+    let none : NoneMarked c.self.inside.free 0 (length c.self.inside.swap.items) = subst (λ n. NoneMarked c.self.inside.free 0 n) count c.in-None.ensures.none in
+    least_free-marked c.self.inside.swap.items c.self.inside.free None c.self.invariant.6 none tt tt tt ∙ ap (λ (cache : CacheView). free_swap cache) c.self.view_is

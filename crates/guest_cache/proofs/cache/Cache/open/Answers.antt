@@ -5,6 +5,7 @@ use Rattle.std.proofs.lemmas.List.{length-replicate, take_all}
 use Rattle.cmm_types.specs.declared.command.TheConstants.{MAX_MAPPING_PAGES}
 use Rattle.guest_cache.specs.CacheView.{pages_before}
 use Rattle.guest_cache.proofs.Swaps.{IsTable-opening}
+use Rattle.guest_cache.proofs.FreeSlots.{free-opening}
 use Rattle.guest_cache.proofs.cache.Cache.open.Goals as goal
 
 pub loop-pages-preserved : goal.loop-pages-preserved
@@ -28,6 +29,5 @@ invariant_of-result c =
       c.requires.slots,
       ap length c.in_ok-index.ensures ∙ length-replicate (c.loop-pages.file_pages + c.args.slots * MAX_MAPPING_PAGES) None ∙ ap (λ n. n + c.args.slots * MAX_MAPPING_PAGES) pages,
       rw (c.in_ok-no_tags.ensures, c.in_ok-none_yet.ensures) (IsTable-opening c.args.slots c.args.swap),
-      omega arith,
-      λ number below. absurd (omega (arith, below)),
+      rw c.in_ok-no_tags.ensures (c.in_ok-all_free.ensures ∙ free-opening c.args.swap),
     )

@@ -1,9 +1,9 @@
 use Rattle.std.proofs.Common.{◌≡◌, ◌∙◌, ℕ, List, Option, Some, length, ap, subst}
 use Rattle.std.specs.Option.{option_or}
 use Rattle.essa_state.specs.declared.fields.Fields.{Fields}
-use Rattle.host_clock.specs.Victim.{victim_of}
-use Rattle.host_clock.specs.Marking.{first_marked, chosen_at}
-use Rattle.host_clock.specs.Laws.MarkingLaws.{victim-chosen}
+use Rattle.host_clock.specs.Victim.{victim_of, chosen_at}
+use Rattle.marks.specs.Marking.{first_marked}
+use Rattle.host_clock.specs.Laws.VictimLaws.{victim-chosen}
 use Rattle.host_plain.proofs.words.Words.victim_place.Goals as goal
 
 pub returns-in-Some : goal.returns-in-Some

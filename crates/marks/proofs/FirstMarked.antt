@@ -4,10 +4,9 @@ use Rattle.std.specs.List.{position_or_len}
 use Rattle.std.specs.Option.{option_or, option_map}
 use Rattle.std.proofs.Common.{arith, ap, sym, subst, ◌∙◌}
 use Rattle.std.proofs.lemmas.List.{get_or-drop, get_or-take, length-drop, length-take-le}
-use Rattle.host_clock.specs.Victim.{wrapped}
-use Rattle.host_clock.specs.Marking.{is_marked, NoneMarked, first_marked}
-use Rattle.host_clock.specs.Laws.MarkingLaws.{wrapped-same, wrapped-over}
-use Rattle.host_clock.proofs.Cycle.{position-append}
+use Rattle.marks.specs.Marking.{is_marked, NoneMarked, wrapped, first_marked}
+use Rattle.marks.specs.Laws.MarkingLaws.{wrapped-same, wrapped-over}
+use Rattle.marks.proofs.Joined.{position-append}
 
 abbrev is_set : Bool → Bool
 is_set marked = marked

@@ -1,7 +1,7 @@
 use Rattle.std.proofs.Common.{◌≡◌, ◌+◌, ◌/◌, arith, replicate, false}
 use Rattle.std.proofs.lemmas.List.{length-replicate}
-use Rattle.host_clock.proofs.Marked.{opening-counts}
-use Rattle.host_clock.proofs.marks.Marks.open.Goals as goal
+use Rattle.marks.proofs.Marked.{opening-counts}
+use Rattle.marks.proofs.Marks.open.Goals as goal
 
 pub invariant_of-result : goal.invariant_of-result
 invariant_of-result c =

@@ -1,10 +1,14 @@
-// A set of places, in which the next one from a place on is found without a look at each place.
-ghost use Rattle.std.specs.Prelude.{◌≡◌, ◌+◌, ◌-◌, ◌*◌, ◌/◌, ◌^◌, ◌<◌, ◌≤◌, ℕ, length, replicate, true, false, ◌↔◌, IsTrue, IfOk, IfSome, IfNone, if◌then◌else◌, slice_index_or, slice_set};
-ghost use Rattle.host_clock.specs.Marking.{is_marked, NoneMarked, first_marked, recounted};
+//! A set of places, in which the next one from a place on is found without a look at each place.
+#![tactic(auto)]
 
-use cmm_types::MAX_TOTAL_PAGES;
+ghost use Rattle.std.specs.Prelude.{◌≡◌, ◌+◌, ◌-◌, ◌*◌, ◌/◌, ◌^◌, ◌<◌, ◌≤◌, ℕ, length, replicate, true, false, ◌↔◌, IsTrue, IfOk, IfSome, IfNone, if◌then◌else◌, slice_index_or, slice_set};
+ghost use Rattle.marks.specs.Marking.{is_marked, NoneMarked, first_marked, recounted};
+
 use std::alloc::{AllocError, Global};
 use std::marker::Model;
+
+#[cfg(test)]
+mod tests;
 
 const BLOCK: usize = 64;
 
@@ -20,16 +24,15 @@ pub struct Marks {
 }
 
 impl Model for Marks {
-    ghost use Rattle.std.specs.Prelude.{◌≤◌, List, Bool, length};
-    ghost use Rattle.cmm_types.specs.declared.plan.TheConstants.{MAX_TOTAL_PAGES};
-    ghost use Rattle.host_clock.specs.declared.marks.TheConstants.{BLOCK, GROUP};
-    ghost use Rattle.host_clock.specs.Marking.{AreCounts};
+    ghost use Rattle.std.specs.Prelude.{◌≤◌, ◌^◌, List, Bool, length};
+    ghost use Rattle.marks.specs.declared.TheConstants.{BLOCK, GROUP};
+    ghost use Rattle.marks.specs.Marking.{AreCounts};
 
     ghost Value = { List Bool };
 
     ghost view = { λ m. m.marks.items };
 
-    ghost invariant = { λ m. AreCounts BLOCK m.marks.items m.blocks.items × AreCounts GROUP m.marks.items m.groups.items × (length m.marks.items ≤ MAX_TOTAL_PAGES) };
+    ghost invariant = { λ m. AreCounts BLOCK m.marks.items m.blocks.items × AreCounts GROUP m.marks.items m.groups.items × (length m.marks.items ≤ 2 ^ 32) };
 }
 
 // The count of one more, or of one fewer.
@@ -47,7 +50,7 @@ fn recounted(count: u32, more: bool) -> u32
 impl Marks {
     /// So many places, none of them marked.
     pub fn open(alloc: Global, places: usize) -> Result<Marks, AllocError>
-        requires { places ≤ MAX_TOTAL_PAGES }
+        requires { places ≤ 2 ^ 32 }
         ensures { IfOk result (λ marks. marks ≡ replicate places false) }
     {
         Ok(Marks {

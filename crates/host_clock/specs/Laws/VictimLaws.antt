@@ -1,21 +1,15 @@
--- Laws of marked places: the first one from the hand, and the victim by the marks of two kinds of pages.
-use Rattle.std.specs.Prelude.{◌≡◌, refl, ℕ, ◌+◌, ◌<◌, List, [], ◌∷◌, ◌++◌, length, take, drop, map, Bool, true, false, not, Option, Some, None, position, cond}
+-- Laws of the victim by the marks of two kinds of pages.
+use Rattle.std.specs.Prelude.{◌≡◌, refl, ℕ, ◌+◌, List, [], ◌∷◌, ◌++◌, length, take, drop, map, Bool, true, false, not, Option, Some, None, position, cond}
 use Rattle.std.specs.List.{position_or_len}
 use Rattle.std.specs.Option.{option_or, option_map}
-use Rattle.std.proofs.Common.{arith, ap, sym, ◌∙◌}
+use Rattle.std.proofs.Common.{ap, sym, ◌∙◌}
 use Rattle.std.proofs.lemmas.List.{drop-map, take-map, map-append, length-map}
 use Rattle.essa_state.specs.declared.fields.Fields.{Fields}
-use Rattle.host_clock.specs.Victim.{is_candidate, is_takeable, from_hand, wrapped, victim_after, victim_of}
-use Rattle.host_clock.specs.Marking.{first_marked, chosen_at}
+use Rattle.host_clock.specs.Victim.{is_candidate, is_takeable, from_hand, victim_after, victim_of, chosen_at}
+use Rattle.marks.specs.Marking.{wrapped, first_marked}
 
 abbrev is_set : Bool → Bool
 is_set marked = marked
-
-pub wrapped-same : (count place : ℕ) → place < count → wrapped count place ≡ place
-wrapped-same count place below = grind (arith, below)
-
-pub wrapped-over : (count place : ℕ) → wrapped count (count + place) ≡ place
-wrapped-over count place = grind arith
 
 position-map : (p : Fields → Bool) (words : List Fields) → position is_set (map p words) ≡ position p words
 position-map p words = rw (or_len words, length-map words p) refl

@@ -1,8 +1,8 @@
 use Rattle.std.proofs.Common.{◌<◌, length, subst}
 use Rattle.std.proofs.Common.{sym}
-use Rattle.host_clock.specs.Marking.{NoneMarked}
-use Rattle.host_clock.proofs.FirstMarked.{first_marked-on, first_marked-next}
-use Rattle.host_clock.proofs.marks.Marks.first.Goals as goal
+use Rattle.marks.specs.Marking.{NoneMarked}
+use Rattle.marks.proofs.FirstMarked.{first_marked-on, first_marked-next}
+use Rattle.marks.proofs.Marks.first.Goals as goal
 
 pub returns-in-Some-clause-first : goal.returns-in-Some-clause-first
 returns-in-Some-clause-first c =

@@ -1,8 +1,8 @@
 use Rattle.std.proofs.Common.{◌≡◌, ◌+◌, ◌<◌, ◌*◌, ◌/◌, ◌∙◌, List, Bool, sym, subst, arith, length, rules, slice_index_or, false}
 use Rattle.std.proofs.lemmas.List.{get_or_default}
-use Rattle.host_clock.specs.Marking.{NoneMarked, is_marked}
-use Rattle.host_clock.proofs.Marked.{none-block}
-use Rattle.host_clock.proofs.marks.Marks.gap.Goals as goal
+use Rattle.marks.specs.Marking.{NoneMarked, is_marked}
+use Rattle.marks.proofs.Marked.{none-block}
+use Rattle.marks.proofs.Marks.gap.Goals as goal
 
 pub returns-then-index-eq0-clause-none : goal.returns-then-index-eq0-clause-none
 returns-then-index-eq0-clause-none c =

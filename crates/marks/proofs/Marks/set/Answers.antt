@@ -1,9 +1,9 @@
 use Rattle.std.proofs.Common.{◌≡◌, ◌<◌, ◌/◌, ◌∙◌, List, Bool, ap, sym, subst, arith, length, rules, slice_index_or, slice_set, false, lit≤}
 use Rattle.std.proofs.Math.ListN.{length-set}
 use Rattle.std.proofs.lemmas.List.{get_or_default, set-get_or}
-use Rattle.host_clock.specs.Marking.{AreCounts, is_marked, recounted}
-use Rattle.host_clock.proofs.Marked.{counts_set, count-most, same-mark, other-mark}
-use Rattle.host_clock.proofs.marks.Marks.set.Goals as goal
+use Rattle.marks.specs.Marking.{AreCounts, is_marked, recounted}
+use Rattle.marks.proofs.Marked.{counts_set, count-most, same-mark, other-mark}
+use Rattle.marks.proofs.Marks.set.Goals as goal
 
 pub returns-then-index-mark : goal.returns-then-index-mark
 returns-then-index-mark c =

@@ -1,7 +1,6 @@
--- Marked places in a list, the counts of them by which the next one is found, and the victim that marks give.
-use Rattle.std.specs.Prelude.{◌≡◌, ℕ, zero, suc, ◌+◌, ◌-◌, ◌*◌, ◌<◌, ◌≤◌, List, ◌++◌, length, take, drop, position, Option, Bool, false, if◌then◌else◌, slice_index_or}
+-- Marked places in a list, the counts of them by which the next one is found, and the first one in cyclic order.
+use Rattle.std.specs.Prelude.{◌≡◌, ℕ, zero, suc, ◌+◌, ◌-◌, ◌*◌, ◌<◌, ◌≤◌, List, ◌++◌, length, take, drop, position, Option, Bool, false, nat_lt, if◌then◌else◌, slice_index_or}
 use Rattle.std.specs.Option.{option_map}
-use Rattle.host_clock.specs.Victim.{wrapped}
 
 abbrev pub is_marked : List Bool → ℕ → Bool
 is_marked marks place = slice_index_or marks place false
@@ -27,10 +26,10 @@ pub record AreCounts (size : ℕ) (marks : List Bool) (counts : List ℕ) : Type
   pub all : length marks < size * length counts
   pub exact : (block : ℕ) → block < length counts → slice_index_or counts block 0 ≡ marked_in marks (size * block) size
 
+-- a place, where the first of count places follows the last
+abbrev pub wrapped : ℕ → ℕ → ℕ
+wrapped count place = if nat_lt place count then place else place - count
+
 -- the first marked place in cyclic order from the hand
 abbrev pub first_marked : List Bool → ℕ → Option ℕ
 first_marked marks hand = option_map (λ steps. wrapped (length marks) (hand + steps)) (position (λ marked. marked) (drop hand marks ++ take hand marks))
-
--- the place and the hand after it, among so many
-abbrev pub chosen_at : ℕ → Option ℕ → Option (ℕ × ℕ)
-chosen_at count place = option_map (λ (p : ℕ). (p, wrapped count (p + 1))) place

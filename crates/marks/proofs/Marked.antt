@@ -6,7 +6,7 @@ use Rattle.std.proofs.Math.Nat.{mul-le-mul_left}
 use Rattle.std.proofs.lemmas.Bool.{cases_eq, cases_lt}
 use Rattle.std.proofs.lemmas.List.{length-replicate}
 use mathlib.Core.Bool.{beq}
-use Rattle.host_clock.specs.Marking.{is_marked, NoneMarked, mark_code, marked_in, recounted, AreCounts}
+use Rattle.marks.specs.Marking.{is_marked, NoneMarked, mark_code, marked_in, recounted, AreCounts}
 
 -- where no place is marked
 none-marked : (n k : ℕ) → is_marked (replicate n false) k ≡ false

@@ -1,6 +1,6 @@
 use Rattle.std.proofs.Common.{◌≤◌, ◌-◌}
-use Rattle.host_clock.specs.Marking.{NoneMarked}
-use Rattle.host_clock.proofs.marks.Marks.next.Given as goal
+use Rattle.marks.specs.Marking.{NoneMarked}
+use Rattle.marks.proofs.Marks.next.Given as goal
 
 abbrev pub invariant-loop-place : goal.invariant-loop-place
 invariant-loop-place l = (l.from ≤ l.place) × NoneMarked l.self l.from l.place

@@ -1,0 +1,3 @@
+pub mod Joined
+pub mod Marked
+pub mod FirstMarked
