@@ -21,6 +21,5 @@ pub mod TearCauses
 pub mod Causes
 pub mod NoPage
 pub mod TurnCauses
-pub mod Discards
-pub mod PlanKept
+pub mod Summary
 pub mod FailuresKept

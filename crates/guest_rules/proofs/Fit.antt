@@ -11,10 +11,12 @@ pub mod StepTold
 pub mod StepResolved
 pub mod FoundBytes
 pub mod Replies
+pub mod NewMapping
 pub mod ReplyMapped
 pub mod ReplyLoaded
 pub mod StoredBytes
 pub mod FitBytes
+pub mod ChangedBytes
 pub mod ReplyStored
 pub mod ReplyWritten
 pub mod ReplyPinned
@@ -24,6 +26,8 @@ pub mod FitBlock
 pub mod StepLocked
 pub mod StepSynced
 pub mod PinnedBound
+pub mod SwapBound
+pub mod StepSwapped
 pub mod StepRoom
 pub mod FitSync
 pub mod FitRoom

@@ -3,6 +3,10 @@
 pub mod Faults
 pub mod Changes
 pub mod PageFits
+pub mod SwapLaws
+pub mod Shapes
+pub mod FlatTags
+pub mod TagsKept
 pub mod Currents
 pub mod CurrentsKept
 pub mod EntryLaws
@@ -16,7 +20,9 @@ pub mod RowChanges
 pub mod SyncTables
 pub mod PinsKept
 pub mod TeardownsKept
+pub mod Untagged
 pub mod Unpinned
 pub mod Unshown
 pub mod Tables
+pub mod Backing
 pub mod WholePages

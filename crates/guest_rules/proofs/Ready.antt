@@ -2,3 +2,4 @@
 pub mod Ready
 pub mod AnswerReady
 pub mod ReadyCalls
+pub mod TearReady

@@ -9,6 +9,7 @@ pub mod ReadPage
 pub mod WritePage
 pub mod ResolvePage
 pub mod ClearEntry
+pub mod TearPage
 pub mod EntryPage
 pub mod FillPage
 pub mod SyncPage

@@ -12,8 +12,7 @@ use Rattle.guest_rules.specs.Alone.{alone}
 use Rattle.guest_rules.specs.Fit.{Fit}
 use Rattle.guest_rules.specs.Cause.{TurnCause, AloneCause, NoWrongDiscard}
 use Rattle.guest_rules.proofs.Causes.TurnCauses.{turn_causes}
-use Rattle.guest_rules.proofs.Causes.Discards.{turn_discards}
-use Rattle.guest_rules.proofs.Causes.PlanKept.{plan_kept}
+use Rattle.guest_rules.proofs.Causes.Summary.{turn_summary}
 use Rattle.guest_rules.proofs.Bound.Bound.{alone_causes}
 use Rattle.guest_rules.proofs.Cases.Inversion.{turn_case}
 use Rattle.guest_rules.proofs.Fit.FitTurn.{fit_turn}
@@ -31,12 +30,12 @@ Causes-turn g cpu v d h t w e f below run = turn_causes g v w d e cpu h t f belo
 -- no turn discards a page that may not be discarded
 pub Discards-turn : (g : GuestState) (cpu : ℕ) (v : StorageView) (d : DiskView) (h : GuestState) (t : Turn) (w : StorageView) (e : DiskView)
     → Fit g v d → cpu < length g.processors → Seen {A = GuestState × Turn} (turn g cpu) v d (h, t) w e → NoWrongDiscard v w
-Discards-turn g cpu v d h t w e f below run = turn_discards g v w d e cpu h t (turn_case (flat_of g.plan g.journal) g v w d e cpu h t f below run)
+Discards-turn g cpu v d h t w e f below run = (turn_summary g v w d e cpu h t (turn_case (flat_of g.plan g.journal) g v w d e cpu h t f below run)).discards
 
 -- no turn changes the plan
 pub plan-turn : (g : GuestState) (cpu : ℕ) (v : StorageView) (d : DiskView) (h : GuestState) (t : Turn) (w : StorageView) (e : DiskView)
     → Fit g v d → cpu < length g.processors → Seen {A = GuestState × Turn} (turn g cpu) v d (h, t) w e → h.plan ≡ g.plan
-plan-turn g cpu v d h t w e f below run = plan_kept g v w d e cpu h t (turn_case (flat_of g.plan g.journal) g v w d e cpu h t f below run)
+plan-turn g cpu v d h t w e f below run = (turn_summary g v w d e cpu h t (turn_case (flat_of g.plan g.journal) g v w d e cpu h t f below run)).plan
 
 -- a processor that goes on alone over a storage that never misses stops within the turns that its command may take, and for a cause
 pub Causes-alone : (g : GuestState) (cpu : ℕ) (v : StorageView) (d : DiskView) (h : GuestState) (a : Alone) (w : StorageView) (e : DiskView)

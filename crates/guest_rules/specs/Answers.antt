@@ -2,6 +2,7 @@
 use Rattle.std.specs.Prelude.{◌≡◌, ◌≢◌, ◌⊎◌, ◌<◌, ℕ, ◌+◌, ◌-◌, ◌||◌, List, ◌∷◌, length, take, drop, Bool, true, false, nat_lt, if◌then◌else◌, Option, Some, None, IsSome, Result, Ok, Err}
 use Rattle.cmm_types.specs.declared.page.Usage.TheVariants.{S, U}
 use Rattle.cmm_types.specs.declared.page.Tag.{Tag}
+use Rattle.cmm_types.specs.declared.page.Tag.TheVariants.{Anon}
 use Rattle.cmm_types.specs.declared.command.Cause.{Cause}
 use Rattle.cmm_types.specs.declared.command.Cause.TheVariants.{Disk, Paging, NoPage as NoPageCause}
 use Rattle.cmm_io.specs.Faults.{HasRisen, raised}
@@ -10,6 +11,7 @@ use Rattle.essa_state.specs.PageValue.{PageValue, Bytes, IsValue, MayBecome, is_
 use Rattle.cmm_storage.specs.StorageView.{StorageView, Misses}
 use Rattle.cmm_types.specs.Bytes.{with_bytes}
 use Rattle.guest_pages.specs.PagesView.{info_at, free_info}
+use Rattle.guest_cache.specs.CacheView.{page_of, swap_slot}
 use Rattle.guest_maps.specs.declared.slot.Pte.{Pte}
 use Rattle.guest_maps.specs.MapsView.{entries_showing, with_entry, with_pinned, one_if}
 use Rattle.guest_rules.specs.declared.parts.Parts.{Parts}
@@ -196,6 +198,22 @@ ClearAnswer old slot index pte v new PlaceDone w =
     (new.maps ≡ with_entry old.maps slot index None) × ((info_at new.pages pte.page).writers ≡ (info_at old.pages pte.page).writers - one_if pte.writable) × IsHinted new pte.page w
 ClearAnswer old slot index pte v new PlaceGone w = WasDiscarded old pte.page v new w
 ClearAnswer old slot index pte v new (PlaceAgain why) w = (new ≡ old) × Misses v w
+
+-- ---- a page that is taken off its mapping
+
+-- the page is free, and the host was told that it is unused; no page has its tag, and the tag has no swap slot. No fault is counted
+pub record IsTornOff (old : Parts) (slot index page : ℕ) (new : Parts) (w : StorageView) : Type 0 where
+  pub free : IsFree new page
+  pub pageless : page_of new.cache (Anon slot index) ≡ None
+  pub slotless : swap_slot new.cache (Anon slot index) ≡ None
+  pub unused : (w.values page).usage ≡ U
+  pub faults : new.faults ≡ old.faults
+
+-- whether the host had discarded the page isn't asked, so it is never gone
+abbrev pub TearAnswer : Parts → (slot index page : ℕ) → StorageView → Parts → Placed → StorageView → Type 0
+TearAnswer old slot index page v new PlaceDone w = IsTornOff old slot index page new w
+TearAnswer old slot index page v new PlaceGone w = ⊥
+TearAnswer old slot index page v new (PlaceAgain why) w = (new ≡ old) × Misses v w
 
 -- ---- a page that is filled
 

@@ -1,15 +1,17 @@
 -- What the calls on one page ask of the tables, the storage and the disk.
-use Rattle.std.specs.Prelude.{◌≡◌, ◌≢◌, ◌<◌, ◌≤◌, ◌+◌, ◌*◌, ℕ, Bool, true, false, [], length, Contains, Some, None, IfSome}
+use Rattle.std.specs.Prelude.{◌≡◌, ◌≢◌, ◌<◌, ◌≤◌, ◌+◌, ◌*◌, ℕ, Bool, true, false, [], length, Contains, Some, None, IfSome, slice_index_or}
 use Rattle.cmm_types.specs.declared.page.TheConstants.{PAGE}
 use Rattle.cmm_types.specs.declared.page.Usage.TheVariants.{S}
 use Rattle.cmm_types.specs.declared.bytes.TheConstants.{MAX_BYTES}
+use Rattle.cmm_types.specs.declared.page.Tag.{Tag}
+use Rattle.cmm_types.specs.declared.page.Tag.TheVariants.{Anon}
 use Rattle.cmm_types.specs.declared.plan.TheConstants.{MAX_MAPPING_SLOTS}
 use Rattle.cmm_types.specs.declared.command.TheConstants.{MAX_MAPPING_PAGES}
 use Rattle.cmm_io.specs.DiskView.{DiskView}
 use Rattle.essa_state.specs.StateWord.{is_unused}
 use Rattle.cmm_storage.specs.StorageView.{StorageView, can_store}
 use Rattle.guest_pages.specs.PagesView.{info_at}
-use Rattle.guest_cache.specs.CacheView.{IsTag}
+use Rattle.guest_cache.specs.CacheView.{CacheView, IsTag}
 use Rattle.guest_maps.specs.declared.slot.Pte.{Pte}
 use Rattle.guest_maps.specs.MapsView.{IsPlace}
 use Rattle.guest_rules.specs.declared.parts.Parts.{Parts}
@@ -87,6 +89,20 @@ pub record CanPin (parts : Parts) (page slot index : ℕ) (pins : Bool) : Type 0
   pub place : IsPlace parts.maps slot index
   pub most : (info_at parts.pages page).pins ≤ MAX_MAPPING_SLOTS * MAX_MAPPING_PAGES
   pub some : pins ≡ false → 1 ≤ (info_at parts.pages page).pins
+
+-- ---- a page of a mapping of pages of its own
+
+-- no tag has two swap slots
+pub record HasOneSwapSlot (cache : CacheView) : Type 0 where
+  pub same : (number other : ℕ) (tag : Tag) → slice_index_or cache.swap number None ≡ Some tag → slice_index_or cache.swap other None ≡ Some tag → number ≡ other
+
+-- it can be taken off the mapping, with its swap slot: the page has the tag of its place, and isn't locked
+pub record CanTear (parts : Parts) (v : StorageView) (slot index page : ℕ) : Type 0 where
+  pub takes : CanTake parts v page
+  pub is_tag : IsTag parts.cache (Anon slot index)
+  pub tagged : (info_at parts.pages page).tag ≡ Some (Anon slot index)
+  pub unlocked : (info_at parts.pages page).owner ≡ None
+  pub once : HasOneSwapSlot parts.cache
 
 -- ---- a page and its block
 

@@ -122,13 +122,13 @@ pub record IsLastSynced (g : GuestState) (cpu file : ℕ) (h : GuestState) (w : 
   pub synced : IsSynced h w e file (index_of (processor_at g cpu).phase)
 
 -- what stands once a command of the processor is done. Reads and loads are answered with bytes; an unmap is answered before it is
--- done; mappings of pages of their own aren't built yet
+-- done
 abbrev pub ShowsDone : GuestState → (cpu : ℕ) → Op → GuestState → StorageView → DiskView → Type 0
 ShowsDone g cpu (Read file off len) h w e = ⊥
 ShowsDone g cpu (Write file off bytes) h w e = (page : ℕ) × IsWritten h w file off bytes page
 ShowsDone g cpu (Sync file) h w e = IsLastSynced g cpu file h w e
 ShowsDone g cpu (MapFile number file first count writable) h w e = Unit {0}
-ShowsDone g cpu (MapAnon number count) h w e = ⊥
+ShowsDone g cpu (MapAnon number count) h w e = Unit {0}
 ShowsDone g cpu (Unmap number) h w e = ⊥
 ShowsDone g cpu (Load number off len) h w e = ⊥
 ShowsDone g cpu (Store number off bytes) h w e = (page : ℕ) × IsShown h (process_of g.plan cpu) number off true page × IsStored w page off bytes

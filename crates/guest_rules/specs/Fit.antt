@@ -1,9 +1,9 @@
 -- What stands between any two turns of a guest, its pages' values and its disk.
-use Rattle.std.specs.Prelude.{◌≡◌, ◌<◌, ◌≤◌, ◌==◌, ◌&&◌, ℕ, zero, suc, ◌+◌, ◌*◌, List, [], length, map, sum, sum_by, Bool, true, false, Option, Some, None, Contains, slice_get, slice_index_or, ◌⊎◌}
+use Rattle.std.specs.Prelude.{◌≡◌, ◌<◌, ◌≤◌, ◌==◌, ◌&&◌, ℕ, zero, suc, ◌+◌, ◌*◌, List, [], length, map, sum, sum_by, Bool, true, false, Option, Some, None, Contains, slice_get, slice_index_or, ◌⊎◌, IsSome}
 use Rattle.std.specs.FinMap as finite
 use Rattle.std.specs.List.{range_with_len}
 use Rattle.cmm_types.specs.declared.page.TheConstants.{PAGE}
-use Rattle.cmm_types.specs.declared.page.Usage.TheVariants.{V}
+use Rattle.cmm_types.specs.declared.page.Usage.TheVariants.{U, V}
 use Rattle.cmm_types.specs.declared.page.Tag.{Tag}
 use Rattle.cmm_types.specs.declared.page.Tag.TheVariants.{File, Anon as AnonTag}
 use Rattle.cmm_types.specs.declared.plan.TheConstants.{MAX_MAPPING_SLOTS}
@@ -16,15 +16,15 @@ use Rattle.cmm_types.specs.InRange.{GuestInRange, blocks_of}
 use Rattle.cmm_flat.specs.declared.mapping.Mapping.{Mapping}
 use Rattle.cmm_flat.specs.declared.mapping.Shown.{Shown as FlatShown}
 use Rattle.cmm_flat.specs.declared.mapping.Shown.TheVariants.{OfFile as FlatFile, Anonymous}
-use Rattle.cmm_types.specs.Bytes.{bytes_at, zeros as flat_zeros, zero_page}
-use Rattle.cmm_flat.specs.State.{FlatState, mapping_at, file_at}
+use Rattle.cmm_types.specs.Bytes.{bytes_at, zero_page}
+use Rattle.cmm_flat.specs.State.{FlatState, IsSound, mapping_at, file_at}
 use Rattle.cmm_flat.specs.Legal.{Legal, flat_of, walk_of, start_of, progress_of, command_of, process_of}
 pub use Rattle.cmm_flat.specs.Legal.{all_commands}
 use Rattle.cmm_io.specs.DiskView.{DiskView, AreBlocks}
 use Rattle.essa_state.specs.PageValue.{PageValue, Contents, Bytes, Blank, Lost, IsValue, is_lost, is_blank}
 use Rattle.cmm_storage.specs.StorageView.{StorageView}
 use Rattle.guest_pages.specs.PagesView.{info_at, free_info, AreDistinct}
-use Rattle.guest_cache.specs.CacheView.{CacheView, IsTag, page_of, backing_of}
+use Rattle.guest_cache.specs.CacheView.{CacheView, IsTag, IsAnonymous, page_of, swap_slot, backing_of}
 use Rattle.guest_maps.specs.declared.slot.Pte.{Pte}
 use Rattle.guest_maps.specs.declared.slot.Slot.{Slot}
 use Rattle.guest_maps.specs.declared.slot.Shown.{Shown}
@@ -37,12 +37,10 @@ use Rattle.guest_rules.specs.declared.processor.Phase.TheVariants.{Start, Fill, 
 use Rattle.guest_rules.specs.Hint.{hint}
 use Rattle.guest_rules.specs.GuestState.{GuestState, processor_at}
 use Rattle.guest_rules.specs.Turns.{slot_writable, file_pages}
-use Rattle.guest_rules.specs.Built.{GuestIsBuilt}
 
 -- the tables, the storage and the disk are of the plan's sizes
 pub record SizesFit (g : GuestState) (v : StorageView) (d : DiskView) : Type 0 where
   pub range : GuestInRange g.plan
-  pub built : GuestIsBuilt g.plan
   pub infos : length g.parts.pages.infos ≡ g.plan.pages
   pub pages : v.pages ≡ g.plan.pages
   pub processors : length g.processors ≡ length g.plan.cpus
@@ -66,13 +64,22 @@ pub record PagesFit (parts : Parts) : Type 0 where
 abbrev pub pins_of : MapsView → (slot count : ℕ) → List Bool
 pins_of maps slot count = map (pinned_at maps slot) (range_with_len 0 count)
 
--- what the flat machine has of the mapping in a slot
-abbrev pub flat_shown : Shown → (count : ℕ) → FlatShown
-flat_shown (OfFile file first writable) count = FlatFile file first writable
-flat_shown Anon count = Anonymous (flat_zeros (PAGE * count))
+-- what the flat machine has of the mapping in a slot, but for bytes of its own
+abbrev pub flat_shown : Shown → FlatShown
+flat_shown (OfFile file first writable) = FlatFile file first writable
+flat_shown Anon = Anonymous []
 
 abbrev pub flat_slot : MapsView → ℕ → Slot → Mapping
-flat_slot maps slot mapping = record { shown = flat_shown mapping.shown mapping.count; pins = pins_of maps slot mapping.count }
+flat_slot maps slot mapping = record { shown = flat_shown mapping.shown; pins = pins_of maps slot mapping.count }
+
+-- a mapping of the flat machine without bytes of its own
+abbrev pub without_bytes : FlatShown → FlatShown
+without_bytes (FlatFile file first writable) = FlatFile file first writable
+without_bytes (Anonymous bytes) = Anonymous []
+
+abbrev pub shape_of : Option Mapping → Option Mapping
+shape_of None = None
+shape_of (Some mapping) = Some (record mapping { shown = without_bytes mapping.shown })
 
 abbrev pub flat_mapping : MapsView → ℕ → Option Slot → Option Mapping
 flat_mapping maps slot None = None
@@ -82,9 +89,10 @@ abbrev pub flat_found : MapsView → Option ℕ → Option Mapping
 flat_found maps None = None
 flat_found maps (Some slot) = flat_mapping maps slot (slot_at maps slot)
 
--- what the mapping in a slot shows is there: pages of a file, and no page of its own yet
-abbrev pub ShowsFile : CacheView → Slot → Type 0
-ShowsFile cache slot = (file : ℕ) × (first : ℕ) × (writable : Bool) × (slot.shown ≡ OfFile file first writable) × (file < length cache.files) × (first + slot.count ≤ slice_index_or cache.files file 0)
+-- what a mapping of so many pages shows is there: pages of a file, or pages of its own
+abbrev pub HasShownPages : CacheView → Shown → (count : ℕ) → Type 0
+HasShownPages cache (OfFile file first writable) count = (file < length cache.files) × (first + count ≤ slice_index_or cache.files file 0)
+HasShownPages cache Anon count = Unit {0}
 
 -- mapping slots: a slot is free, live or being torn down; the live ones are the live mappings of the flat state, each by its process and number
 pub record SlotsFit (state : FlatState) (parts : Parts) : Type 0 where
@@ -94,10 +102,10 @@ pub record SlotsFit (state : FlatState) (parts : Parts) : Type 0 where
   pub pages : parts.maps.pages ≡ length parts.pages.infos
   pub apart : (slot other : ℕ) (mapping another : Slot) → slot_at parts.maps slot ≡ Some mapping → slot_at parts.maps other ≡ Some another → mapping.live ≡ true
       → another.live ≡ true → mapping.process ≡ another.process → mapping.map ≡ another.map → slot ≡ other
-  pub flat : (process number : ℕ) → mapping_at state process number ≡ flat_found parts.maps (find_slot parts.maps process number)
+  pub flat : (process number : ℕ) → shape_of (mapping_at state process number) ≡ flat_found parts.maps (find_slot parts.maps process number)
   pub counted : finite.len state.mappings ≡ live_slots parts.maps
   pub some : (slot : ℕ) (mapping : Slot) → slot_at parts.maps slot ≡ Some mapping → 1 ≤ mapping.count
-  pub shown : (slot : ℕ) (mapping : Slot) → slot_at parts.maps slot ≡ Some mapping → (mapping.count ≤ MAX_MAPPING_PAGES) × ShowsFile parts.cache mapping
+  pub shown : (slot : ℕ) (mapping : Slot) → slot_at parts.maps slot ≡ Some mapping → (mapping.count ≤ MAX_MAPPING_PAGES) × HasShownPages parts.cache mapping.shown mapping.count
   -- what is pinned is a page of a mapping, so a new mapping begins with none pinned
   pub placed : (slot index : ℕ) → index < MAX_MAPPING_PAGES → pinned_at parts.maps slot index ≡ true → IsPlace parts.maps slot index
 
@@ -149,11 +157,30 @@ pub record IsKept (parts : Parts) (tag : Tag) : Type 0 where
   pub uptodate : (info_at parts.pages page).uptodate ≡ true
 
 -- pins: a page has as many as there are pinned places that map its tag, and the tag of each pinned place is on a page that is up to
--- date. Tags of anonymous pages: there is none yet
+-- date
 pub record PinsFit (parts : Parts) : Type 0 where
   pub counted : (page : ℕ) (tag : Tag) → (info_at parts.pages page).tag ≡ Some tag → (info_at parts.pages page).pins ≡ pins_on parts.maps tag
   pub kept : (slot index : ℕ) (tag : Tag) → index < MAX_MAPPING_PAGES → pinned_at parts.maps slot index ≡ true → tag_at parts.maps slot index ≡ Some tag → IsKept parts tag
-  pub of_files : (page : ℕ) (tag : Tag) → (info_at parts.pages page).tag ≡ Some tag → (file : ℕ) × (index : ℕ) × (tag ≡ File file index)
+
+-- a page of a mapping of pages of its own, in a slot that isn't free
+abbrev pub IsOwnPage : Option Slot → (index : ℕ) → Type 0
+IsOwnPage None index = ⊥
+IsOwnPage (Some mapping) index = (mapping.shown ≡ Anon) × (index < mapping.count)
+
+-- a tag of a file's page, or of such a page
+abbrev pub IsUsedTag : MapsView → Tag → Type 0
+IsUsedTag maps (File file index) = Unit {0}
+IsUsedTag maps (AnonTag slot index) = IsOwnPage (slot_at maps slot) index
+
+-- tags: each page's and each swap slot's is one that is used, and that of a swap slot is anonymous; no tag has two swap slots; an anonymous
+-- page that is changed, or that an entry allows stores to, is dirty or has a swap slot
+pub record TagsFit (parts : Parts) (v : StorageView) : Type 0 where
+  pub pages : (page : ℕ) (tag : Tag) → (info_at parts.pages page).tag ≡ Some tag → IsUsedTag parts.maps tag
+  pub swapped : (number : ℕ) (tag : Tag) → slice_index_or parts.cache.swap number None ≡ Some tag → IsAnonymous tag × IsUsedTag parts.maps tag
+  pub distinct : (number other : ℕ) (tag : Tag) → slice_index_or parts.cache.swap number None ≡ Some tag → slice_index_or parts.cache.swap other None ≡ Some tag → number ≡ other
+  pub written : (page slot index : ℕ) → page < v.pages → (info_at parts.pages page).tag ≡ Some (AnonTag slot index)
+      → ((v.values page).changed ≡ true) ⊎ (1 ≤ (info_at parts.pages page).writers)
+      → ((info_at parts.pages page).dirty ≡ true) ⊎ IsSome (swap_slot parts.cache (AnonTag slot index))
 
 -- a command that needs a page: it reads, writes, loads, stores or pins. One that unpins doesn't, since its page is there
 abbrev pub NeedsPage : Op → Type 0
@@ -225,7 +252,8 @@ pub record LocksFit (g : GuestState) : Type 0 where
   pub locked : (cpu page : ℕ) → (info_at g.parts.pages page).owner ≡ Some cpu → HasLocked g cpu page
   pub stale : (page : ℕ) (tag : Tag) → (info_at g.parts.pages page).tag ≡ Some tag → (info_at g.parts.pages page).owner ≡ None → (info_at g.parts.pages page).uptodate ≡ true
 
--- a processor whose unmap, which has been answered, is at a page of the mapping that was in a slot. The pages before it have no entry
+-- a processor whose unmap, which has been answered, is at a page of the mapping that was in a slot. The pages before it have no
+-- entry, and an anonymous one of them neither a page nor a swap slot
 pub record IsTearing (g : GuestState) (cpu slot index : ℕ) : Type 0 where
   pub cpu_below : cpu < length g.processors
   pub number : ℕ
@@ -236,6 +264,7 @@ pub record IsTearing (g : GuestState) (cpu slot index : ℕ) : Type 0 where
   pub its : (mapping.process ≡ process_of g.plan cpu) × (mapping.map ≡ number)
   pub within : index < mapping.count
   pub past : (before : ℕ) → before < index → entry_at g.parts.maps slot before ≡ None
+  pub untagged : (before : ℕ) → before < index → (page_of g.parts.cache (AnonTag slot before) ≡ None) × (swap_slot g.parts.cache (AnonTag slot before) ≡ None)
 
 -- teardowns: a slot is being torn down exactly where one processor's unmap is at a page of it, and nothing of it is pinned
 pub record TeardownsFit (g : GuestState) : Type 0 where
@@ -244,12 +273,13 @@ pub record TeardownsFit (g : GuestState) : Type 0 where
   pub alone : (cpu other slot index at : ℕ) → (processor_at g cpu).phase ≡ Teardown slot index → (processor_at g other).phase ≡ Teardown slot at → cpu ≡ other
   pub unpinned : (slot index : ℕ) (mapping : Slot) → slot_at g.parts.maps slot ≡ Some mapping → mapping.live ≡ false → index < MAX_MAPPING_PAGES → pinned_at g.parts.maps slot index ≡ false
 
--- hints: every page's usage is its hint, and a volatile page isn't changed
+-- hints: every page's usage is its hint, and neither a volatile page nor an unused one is changed
 pub record HintsFit (parts : Parts) (v : StorageView) : Type 0 where
   pub none_held : v.held ≡ None
   pub values : (page : ℕ) → page < v.pages → IsValue (v.values page)
   pub hints : (page : ℕ) → page < v.pages → (v.values page).usage ≡ hint (info_at parts.pages page)
   pub volatile : (page : ℕ) → page < v.pages → (v.values page).usage ≡ V → (v.values page).changed ≡ false
+  pub unused : (page : ℕ) → page < v.pages → (v.values page).usage ≡ U → (v.values page).changed ≡ false
 
 -- a block's bytes, where the disk tells them
 abbrev pub block_bytes : Option (List (List ℕ)) → ℕ → List ℕ
@@ -264,13 +294,16 @@ backed blocks (Some block) = block_bytes blocks block
 abbrev pub backing : CacheView → DiskView → Tag → List ℕ
 backing cache d tag = backed d.blocks (backing_of cache tag)
 
--- contents: a tagged page that is up to date isn't blank, and where it is neither dirty, changed nor lost it has what backs its tag
+-- contents: a tagged page that is up to date isn't blank, its bytes are a whole page, and where it is neither dirty, changed nor lost it
+-- has what backs its tag
 pub record ContentsFit (parts : Parts) (v : StorageView) (d : DiskView) : Type 0 where
   pub tells : v.tells ≡ true
   pub told : (blocks : List (List ℕ)) × (d.blocks ≡ Some blocks)
   pub blocks : AreBlocks d.count d.blocks
   pub not_blank : (page : ℕ) (tag : Tag) → page < v.pages → (info_at parts.pages page).tag ≡ Some tag → (info_at parts.pages page).uptodate ≡ true
       → is_blank (v.values page).contents ≡ false
+  pub whole : (page : ℕ) (tag : Tag) (bytes : List ℕ) → page < v.pages → (info_at parts.pages page).tag ≡ Some tag → (info_at parts.pages page).uptodate ≡ true
+      → (v.values page).contents ≡ Bytes bytes → length bytes ≡ PAGE
   pub same : (page : ℕ) (tag : Tag) → page < v.pages → (info_at parts.pages page).tag ≡ Some tag → (info_at parts.pages page).uptodate ≡ true
       → (info_at parts.pages page).dirty ≡ false → (v.values page).changed ≡ false → is_lost (v.values page).contents ≡ false
       → (v.values page).contents ≡ Bytes (backing parts.cache d tag)
@@ -290,11 +323,39 @@ current_at parts v (Some page) behind = current_bytes (info_at parts.pages page)
 abbrev pub current : Parts → StorageView → DiskView → Tag → List ℕ
 current parts v d tag = current_at parts v (page_of parts.cache tag) (backing parts.cache d tag)
 
--- flat state: each file page is the current bytes of its tag
+-- a page of a live mapping of pages of its own
+abbrev pub IsLiveOwnPage : Option Slot → (index : ℕ) → Type 0
+IsLiveOwnPage None index = ⊥
+IsLiveOwnPage (Some mapping) index = (mapping.live ≡ true) × (mapping.shown ≡ Anon) × (index < mapping.count)
+
+-- a tag of a file's page, or of such a page: what the flat machine has bytes of
+abbrev pub IsFlatTag : Parts → Tag → Type 0
+IsFlatTag parts (File file index) = IsTag parts.cache (File file index)
+IsFlatTag parts (AnonTag slot index) = IsLiveOwnPage (slot_at parts.maps slot) index
+
+-- the bytes of its own that the flat machine has of a mapping
+abbrev pub own_bytes : Option Mapping → List ℕ
+own_bytes None = []
+own_bytes (Some mapping) = of mapping.shown
+  where
+    of : FlatShown → List ℕ
+    of (FlatFile file first writable) = []
+    of (Anonymous bytes) = bytes
+
+abbrev pub flat_of_slot : FlatState → Option Slot → Option Mapping
+flat_of_slot flat None = None
+flat_of_slot flat (Some mapping) = mapping_at flat mapping.process mapping.map
+
+-- what the flat machine has of a tag's page
+abbrev pub flat_page : FlatState → MapsView → Tag → List ℕ
+flat_page flat maps (File file index) = bytes_at (file_at flat.files file) (PAGE * index) PAGE
+flat_page flat maps (AnonTag slot index) = bytes_at (own_bytes (flat_of_slot flat (slot_at maps slot))) (PAGE * index) PAGE
+
+-- flat state: each page of a file, and of a live mapping of pages of its own, is the current bytes of its tag
 pub record FlatFit (flat : FlatState) (g : GuestState) (v : StorageView) (d : DiskView) : Type 0 where
   pub lengths : map length flat.files ≡ map (λ file. PAGE * file.pages) g.plan.files
-  pub pages : (file index : ℕ) → IsTag g.parts.cache (File file index)
-      → bytes_at (file_at flat.files file) (PAGE * index) PAGE ≡ current g.parts v d (File file index)
+  pub sound : IsSound flat
+  pub pages : (tag : Tag) → IsFlatTag g.parts tag → flat_page flat g.parts.maps tag ≡ current g.parts v d tag
 
 -- how many commands a processor has
 abbrev pub commands_of : GuestPlan → ℕ → ℕ
@@ -317,12 +378,23 @@ answered_early (Teardown slot index) = 1
 abbrev pub entries_of : Processor → ℕ
 entries_of processor = processor.place + answered_early processor.phase
 
+-- how many pages of its own a mapping has
+abbrev pub own_pages : Option Slot → ℕ
+own_pages None = 0
+own_pages (Some mapping) = of mapping.shown mapping.count
+  where
+    of : Shown → ℕ → ℕ
+    of (OfFile file first writable) count = 0
+    of Anon count = count
+
 -- journal: it is legal, and each processor has the entries of the commands before its place, and that of an unmap that it is at
 pub record JournalFit (g : GuestState) : Type 0 where
   pub legal : Legal g.plan g.journal
   pub places : (cpu : ℕ) → cpu < length g.processors → (progress_of (walk_of g.plan (start_of g.plan) g.journal) cpu).next ≡ entries_of (processor_at g cpu)
   pub within : (cpu : ℕ) → cpu < length g.processors → entries_of (processor_at g cpu) ≤ commands_of g.plan cpu
   pub counted : length g.journal ≡ sum_by entries_of g.processors
+  pub ended : (cpu slot index : ℕ) → (processor_at g cpu).phase ≡ Teardown slot index
+      → (progress_of (walk_of g.plan (start_of g.plan) g.journal) cpu).ended ≡ own_pages (slot_at g.parts.maps slot)
 
 abbrev pub one_if_lost : PageValue → ℕ
 one_if_lost value = of value.contents
@@ -342,6 +414,7 @@ pub record FitAt (state : FlatState) (g : GuestState) (v : StorageView) (d : Dis
   pub slots : SlotsFit state g.parts
   pub entries : EntriesFit g.parts
   pub pins : PinsFit g.parts
+  pub tags : TagsFit g.parts v
   pub locks : LocksFit g
   pub teardowns : TeardownsFit g
   pub hints : HintsFit g.parts v

@@ -8,7 +8,6 @@ pub mod Stuck
 pub mod GuestState
 pub mod Turns
 pub mod Alone
-pub mod Built
 pub mod Fit
 pub mod Answers
 pub mod Cause

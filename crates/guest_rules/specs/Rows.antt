@@ -1,6 +1,7 @@
 -- What a turn does to one page, as programs of calls. Each begins and ends with no page held, but the parts that say otherwise.
-use Rattle.std.specs.Prelude.{ℕ, ◌+◌, ◌-◌, List, Bool, true, false, Option, Some, None, Result, Ok, Err}
+use Rattle.std.specs.Prelude.{ℕ, ◌+◌, ◌-◌, ◌&&◌, ◌||◌, List, Bool, true, false, Option, Some, None, Result, Ok, Err}
 use Rattle.cmm_types.specs.declared.page.Tag.{Tag}
+use Rattle.cmm_types.specs.declared.page.Tag.TheVariants.{File as FileTag, Anon as AnonTag}
 use Rattle.cmm_types.specs.declared.page.Usage.{Usage}
 use Rattle.cmm_types.specs.declared.page.Usage.TheVariants.{S, U, P, V}
 use Rattle.cmm_types.specs.declared.command.Cause.{Cause}
@@ -15,7 +16,8 @@ use Rattle.cmm_storage.specs.declared.storage.Trap.TheVariants.{Discarded, Pagin
 use Rattle.cmm_types.specs.Bytes.{zero_page}
 use Rattle.cmm_storage.specs.Program.{Program, done, take_page, touch_page, order_page, take_change, fetch_page, store_page, put_page, read_block, bind}
 use Rattle.guest_pages.specs.PagesView.{free_info, info_at, with_info, with_uptodate, with_dirty, with_owner, with_pins, with_writers, pushed}
-use Rattle.guest_cache.specs.CacheView.{CacheView, without_page, backing_of}
+use Rattle.guest_pages.specs.declared.info.PageInfo.{PageInfo}
+use Rattle.guest_cache.specs.CacheView.{CacheView, without_page, backing_of, swap_slot, unassigned}
 use Rattle.guest_maps.specs.declared.slot.Pte.{Pte}
 use Rattle.guest_maps.specs.MapsView.{with_entry, without_entries_of, with_pinned, one_if}
 use Rattle.guest_rules.specs.declared.parts.Parts.{Parts}
@@ -118,11 +120,21 @@ write_taken parts page off bytes (Err busy) = done (parts, Err (MissedAgain (Was
 unfoldable pub write_page : Parts → ℕ → ℕ → List ℕ → Program (Parts × Result Unit Missed)
 write_page parts page off bytes = take_page page (write_taken parts page off bytes)
 
+-- a page of a mapping of its own, which no file backs
+abbrev pub is_anonymous : Option Tag → Bool
+is_anonymous None = false
+is_anonymous (Some (FileTag file index)) = false
+is_anonymous (Some (AnonTag slot index)) = true
+
+-- what is known of a page that one more entry shows: an anonymous page is dirty from the first entry on through which it can be stored to
+abbrev pub shown_info : PageInfo → (writable : Bool) → PageInfo
+shown_info info writable = record info { writers = info.writers + one_if writable; dirty = info.dirty || (writable && is_anonymous info.tag) }
+
 -- the entry at a place shows the page. It is set where there was none, or none that could be stored through
 unfoldable pub mapped : Parts → (page slot index : ℕ) → (writable : Bool) → Parts
 mapped parts page slot index writable =
     record parts {
-      pages = with_writers parts.pages page ((info_at parts.pages page).writers + one_if writable);
+      pages = with_info parts.pages page (shown_info (info_at parts.pages page) writable);
       maps = with_entry parts.maps slot index (Some (record { page = page; writable = writable }));
     }
 
@@ -157,6 +169,18 @@ clear_taken parts slot index pte (Err busy) = done (parts, PlaceAgain (WasBusy p
 -- the entry at a place is cleared. Its page may be locked, to be written back: it stays stable then
 unfoldable pub clear_entry : Parts → (slot index : ℕ) → Pte → Program (Parts × Placed)
 clear_entry parts slot index pte = take_page pte.page (clear_taken parts slot index pte)
+
+-- the swap slot of a page of a mapping, if it has one, is free
+unfoldable pub released : Parts → (slot index : ℕ) → Parts
+released parts slot index = record parts { cache = unassigned parts.cache (swap_slot parts.cache (AnonTag slot index)) }
+
+abbrev pub tear_taken : Parts → (slot index page : ℕ) → Result Unit Busy → Program (Parts × Placed)
+tear_taken parts slot index page (Ok u) = order_page page SetUnused (λ was_done. put_page page (done (released (freed parts page) slot index, PlaceDone)))
+tear_taken parts slot index page (Err busy) = done (parts, PlaceAgain (WasBusy page busy.word))
+
+-- the page of a mapping of its own is freed, and so is its swap slot
+unfoldable pub tear_page : Parts → (slot index page : ℕ) → Program (Parts × Placed)
+tear_page parts slot index page = take_page page (tear_taken parts slot index page)
 
 -- one pin more, or one less
 abbrev pub pins_after : (pins : Bool) → ℕ → ℕ

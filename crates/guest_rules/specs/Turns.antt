@@ -1,8 +1,8 @@
--- The turns of a processor, as programs of calls: the table of turns, for the commands that are built.
+-- The turns of a processor, as programs of calls: the table of turns.
 use Rattle.std.specs.Prelude.{ℕ, ◌+◌, ◌*◌, ◌/◌, ◌%◌, List, [], ◌∷◌, Bool, true, false, not, ◌&&◌, nat_lt, nat_le, if◌then◌else◌, length, Option, Some, None, Result, Ok, Err, slice_get}
 use Rattle.cmm_types.specs.declared.page.TheConstants.{PAGE}
 use Rattle.cmm_types.specs.declared.page.Tag.{Tag}
-use Rattle.cmm_types.specs.declared.page.Tag.TheVariants.{File as FileTag}
+use Rattle.cmm_types.specs.declared.page.Tag.TheVariants.{File as FileTag, Anon as AnonTag}
 use Rattle.cmm_types.specs.declared.plan.TheConstants.{MAX_LIVE_MAPPINGS}
 use Rattle.cmm_types.specs.declared.plan.FilePlan.{FilePlan}
 use Rattle.cmm_types.specs.declared.command.Op.{Op}
@@ -35,7 +35,7 @@ use Rattle.guest_rules.specs.declared.outcome.Missed.TheVariants.{Gone as Missed
 use Rattle.guest_rules.specs.GuestState.{GuestState, processor_at, with_parts, with_phase, entered, answered, next_command}
 use Rattle.guest_rules.specs.declared.outcome.Placed.{Placed}
 use Rattle.guest_rules.specs.declared.outcome.Placed.TheVariants.{Done as PlaceDone, Gone as PlaceGone, Again as PlaceAgain}
-use Rattle.guest_rules.specs.Rows.{read_page, write_page, load_page, store_through, resolve, fill, pin_page, clear_entry}
+use Rattle.guest_rules.specs.Rows.{read_page, write_page, load_page, store_through, resolve, fill, pin_page, clear_entry, tear_page, released}
 use Rattle.guest_rules.specs.declared.outcome.Synced.{Synced}
 use Rattle.guest_rules.specs.declared.outcome.Synced.TheVariants.{Clean, Locked, Gone as SyncGone, Waits as IsLocked, Again as SyncAgain}
 use Rattle.guest_rules.specs.Syncs.{sync_page, write_back}
@@ -72,12 +72,10 @@ refusal_at maps writes off len (Some slot) =
     then (if writes && not (slot_writable (slot_at maps slot)) then Some ReadOnly else None)
     else Some OutOfRange
 
-abbrev pub refusal_of_new : GuestState → (file first count : ℕ) → Option ℕ → Option FlatRefusal
-refusal_of_new g file first count (Some slot) = Some AlreadyMapped
-refusal_of_new g file first count None =
-    if file_has_bytes g.plan.files file (PAGE * first) (PAGE * count)
-    then (if nat_le MAX_LIVE_MAPPINGS (live_slots g.parts.maps) then Some TooManyMaps else None)
-    else Some OutOfRange
+-- why a new mapping is refused, of pages that are there or aren't
+abbrev pub refusal_of_new : GuestState → (are_there : Bool) → Option ℕ → Option FlatRefusal
+refusal_of_new g are_there (Some slot) = Some AlreadyMapped
+refusal_of_new g are_there None = if are_there then (if nat_le MAX_LIVE_MAPPINGS (live_slots g.parts.maps) then Some TooManyMaps else None) else Some OutOfRange
 
 -- a place is pinned once, and unpinned only where it is pinned
 abbrev pub refusal_of_pin : (pins is_pinned : Bool) → Option FlatRefusal
@@ -97,17 +95,18 @@ abbrev pub refusal_of_unmap : MapsView → Option ℕ → Option FlatRefusal
 refusal_of_unmap maps None = Some NoMapping
 refusal_of_unmap maps (Some slot) = if any_pinned maps slot then Some Pinned else None
 
--- why a command of a process is refused, as the tables say. Mappings of pages of their own aren't built yet
+-- why a command of a process is refused, as the tables say
 abbrev pub refusal_in : GuestState → (process : ℕ) → Op → Option FlatRefusal
 refusal_in g process (Read file off len) = if file_has_bytes g.plan.files file off len then None else Some OutOfRange
 refusal_in g process (Write file off bytes) = if file_has_bytes g.plan.files file off (length bytes) then None else Some OutOfRange
-refusal_in g process (MapFile number file first count writable) = refusal_of_new g file first count (find_slot g.parts.maps process number)
+refusal_in g process (MapFile number file first count writable) =
+    refusal_of_new g (file_has_bytes g.plan.files file (PAGE * first) (PAGE * count)) (find_slot g.parts.maps process number)
 refusal_in g process (Load number off len) = refusal_at g.parts.maps false off len (find_slot g.parts.maps process number)
 refusal_in g process (Store number off bytes) = refusal_at g.parts.maps true off (length bytes) (find_slot g.parts.maps process number)
 refusal_in g process (Pin number index) = refusal_of_pin_at g.parts.maps true index (find_slot g.parts.maps process number)
 refusal_in g process (Unpin number index) = refusal_of_pin_at g.parts.maps false index (find_slot g.parts.maps process number)
 refusal_in g process (Sync file) = if nat_lt file (length g.plan.files) then None else Some OutOfRange
-refusal_in g process (MapAnon number count) = None
+refusal_in g process (MapAnon number count) = refusal_of_new g true (find_slot g.parts.maps process number)
 refusal_in g process (Unmap number) = refusal_of_unmap g.parts.maps (find_slot g.parts.maps process number)
 
 -- a free page gets a tag, and is locked by the processor that is to fill it
@@ -270,10 +269,18 @@ abbrev pub teardown_entry : GuestState → (cpu slot index count : ℕ) → Opti
 teardown_entry g cpu slot index count None = done (torn_past g cpu slot index count)
 teardown_entry g cpu slot index count (Some pte) = bind (clear_entry g.parts slot index pte) (λ went. torn_next g cpu slot index count went.0 went.1)
 
--- mappings of pages of their own aren't built yet
+abbrev pub teardown_owned : GuestState → (cpu slot index count page : ℕ) → Option ℕ → Program (GuestState × Turn)
+teardown_owned g cpu slot index count page (Some owner) = done (g, Waits page owner)
+teardown_owned g cpu slot index count page None = bind (tear_page g.parts slot index page) (λ went. torn_next g cpu slot index count went.0 went.1)
+
+abbrev pub teardown_page : GuestState → (cpu slot index count : ℕ) → Option ℕ → Program (GuestState × Turn)
+teardown_page g cpu slot index count None = done (torn_past (with_parts g (released g.parts slot index)) cpu slot index count)
+teardown_page g cpu slot index count (Some page) = teardown_owned g cpu slot index count page (info_at g.parts.pages page).owner
+
+-- of a file's mapping the entry goes; of a mapping of pages of its own the page goes, with its swap slot
 abbrev pub teardown_shown : GuestState → (cpu slot index count : ℕ) → Shown → Program (GuestState × Turn)
 teardown_shown g cpu slot index count (OfFile file first writable) = teardown_entry g cpu slot index count (entry_at g.parts.maps slot index)
-teardown_shown g cpu slot index count OfItsOwn = done (g, Idle)
+teardown_shown g cpu slot index count OfItsOwn = teardown_page g cpu slot index count (page_of g.parts.cache (AnonTag slot index))
 
 abbrev pub teardown_in : GuestState → (cpu slot index : ℕ) → Option Slot → Program (GuestState × Turn)
 teardown_in g cpu slot index None = done (g, Idle)
@@ -330,7 +337,7 @@ write_back_turn g cpu (Store number off bytes) index page = done (g, Idle)
 write_back_turn g cpu (Pin number at) index page = done (g, Idle)
 write_back_turn g cpu (Unpin number at) index page = done (g, Idle)
 
--- a command that isn't refused. Mappings of pages of their own aren't built yet
+-- a command that isn't refused
 abbrev pub start_accepted : GuestState → ℕ → Op → Program (GuestState × Turn)
 start_accepted g cpu (Read file off len) = start_tagged g cpu (Read file off len) (FileTag file (off / PAGE))
 start_accepted g cpu (Write file off bytes) = start_tagged g cpu (Write file off bytes) (FileTag file (off / PAGE))
@@ -341,7 +348,7 @@ start_accepted g cpu (Store number off bytes) = start_mapped g cpu (Store number
 start_accepted g cpu (Pin number index) = start_placed g cpu (Pin number index) index (find_slot g.parts.maps (process_of g.plan cpu) number)
 start_accepted g cpu (Unpin number index) = start_placed g cpu (Unpin number index) index (find_slot g.parts.maps (process_of g.plan cpu) number)
 start_accepted g cpu (Sync file) = sync_turn g cpu (Sync file) 0
-start_accepted g cpu (MapAnon number count) = done (g, Idle)
+start_accepted g cpu (MapAnon number count) = map_turn g cpu (MapAnon number count) number OfItsOwn count (free_slot g.parts.maps)
 start_accepted g cpu (Unmap number) = unmap_turn g cpu (Unmap number) (find_slot g.parts.maps (process_of g.plan cpu) number)
 
 abbrev pub start_refused : GuestState → ℕ → Op → Option FlatRefusal → Program (GuestState × Turn)

@@ -1,8 +1,9 @@
 //! What holds of every guest between its turns. Each law stands on the definitions alone, so that its function does
 //! nothing.
 
-ghost use Rattle.std.specs.Prelude.{◌≡◌, ◌<◌, ℕ, Some, true, length};
+ghost use Rattle.std.specs.Prelude.{◌≡◌, ◌<◌, ℕ, Some, None, true, length};
 ghost use Rattle.cmm_types.specs.declared.page.Tag.{Tag};
+ghost use Rattle.cmm_types.specs.declared.page.Tag.TheVariants.{Anon};
 ghost use Rattle.cmm_types.specs.declared.plan.GuestPlan.{GuestPlan};
 ghost use Rattle.cmm_types.specs.declared.turn.Turn.{Turn};
 ghost use Rattle.cmm_types.specs.declared.turn.Alone.{Alone};
@@ -10,6 +11,7 @@ ghost use Rattle.cmm_io.specs.DiskView.{DiskView};
 ghost use Rattle.cmm_storage.specs.StorageView.{StorageView};
 ghost use Rattle.cmm_storage.specs.Views.{Seen};
 ghost use Rattle.guest_pages.specs.PagesView.{info_at};
+ghost use Rattle.guest_cache.specs.CacheView.{page_of};
 ghost use Rattle.guest_maps.specs.declared.slot.Pte.{Pte};
 ghost use Rattle.guest_maps.specs.MapsView.{entry_at};
 ghost use Rattle.guest_rules.specs.declared.processor.Phase.TheVariants.{Fill, Room, SyncWrite, Teardown};
@@ -19,6 +21,7 @@ ghost use Rattle.guest_rules.specs.Alone.{alone};
 ghost use Rattle.guest_rules.specs.Fit.{Fit};
 ghost use Rattle.guest_rules.specs.Meanwhile.{AllMay};
 ghost use Rattle.guest_rules.specs.Failures.{FailuresFit};
+ghost use Rattle.guest_rules.specs.Calls.{CanTear};
 ghost use Rattle.guest_rules.specs.Answers.{HasBeenFilled, IsToBeFilled, IsToBeWritten, CanBeWrittenOut};
 
 /// What the host does between two turns of a guest leaves it fit.
@@ -38,7 +41,8 @@ pub fn failed_commands_are_counted()
 
 /// What the calls on one page ask of it, to say in words what they leave, stands between any two turns: of a page that is
 /// up to date, which may also be the one that goes to make room, of one that a processor fills, of one that a processor
-/// writes back, for a sync or to make room, and of one whose entry an unmap clears.
+/// writes back, for a sync or to make room, of one whose entry an unmap clears, and of one that an unmap takes off a
+/// mapping of pages of its own.
 pub fn pages_are_ready_between_turns()
     ensures filled { (g : GuestState) (v : StorageView) (d : DiskView) (page : ℕ) (tag : Tag) → Fit g v d → page < length g.parts.pages.infos
         → (info_at g.parts.pages page).tag ≡ Some tag → (info_at g.parts.pages page).uptodate ≡ true → HasBeenFilled g.parts page v }
@@ -52,4 +56,6 @@ pub fn pages_are_ready_between_turns()
         → Fit g v d → (processor_at g cpu).phase ≡ Room page → IsToBeWritten g.parts page v }
     ensures clears { (g : GuestState) (v : StorageView) (d : DiskView) (cpu slot index : ℕ) (pte : Pte) → Fit g v d
         → (processor_at g cpu).phase ≡ Teardown slot index → entry_at g.parts.maps slot index ≡ Some pte → HasBeenFilled g.parts pte.page v }
+    ensures tears { (g : GuestState) (v : StorageView) (d : DiskView) (cpu slot index page : ℕ) → Fit g v d → (processor_at g cpu).phase ≡ Teardown slot index
+        → page_of g.parts.cache (Anon slot index) ≡ Some page → (info_at g.parts.pages page).owner ≡ None → CanTear g.parts v slot index page }
 {}

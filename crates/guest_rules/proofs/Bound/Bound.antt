@@ -28,7 +28,7 @@ use Rattle.guest_rules.proofs.Cases.FileSizes.{file_pages-most}
 use Rattle.guest_rules.proofs.Bound.Ranks.{Rank, no_command, has_command, rank_some, command_rank}
 use Rattle.guest_rules.proofs.Bound.Steps.{rank_step, never_again}
 use Rattle.guest_rules.proofs.Bound.TurnsKept.{turns_kept}
-use Rattle.guest_rules.proofs.Causes.PlanKept.{plan_kept}
+use Rattle.guest_rules.proofs.Causes.Summary.{turn_summary}
 
 -- a turn keeps what stands between turns
 abbrev pub KeepsFit : Type 0
@@ -95,7 +95,7 @@ after_turn : (g h i : GuestState) (v m w : StorageView) (d y e : DiskView) (cpu 
     → (Rank h m cpu left → MayTake h cpu (turns + suc left) → Seen {A = GuestState × Alone} (alone_within fuel (turns + 1) h cpu) m y (i, a) w e → StopsAfter (turns + 1) h m y cpu a i w e)
     → Seen {A = GuestState × Alone} (alone_after (λ q. alone_within fuel (turns + 1) q cpu) turns h t) m y (i, a) w e → StopsAfter turns g v d cpu a i w e
 after_turn g h i v m w d y e cpu fuel left turns Moved a f quiet case cause rank few next run =
-    let plan = plan_kept g v m d y cpu h Moved case in
+    let plan = (turn_summary g v m d y cpu h Moved case).plan in
     let on : Onward g cpu h = record { moved = cause.answer.0; plan = plan; turns = λ op command. turns_kept g v m d y cpu op h f command plan case } in
     stop_before turns g h i v m w d y e cpu a on cause (next (rank_step g v m d y cpu left h f quiet case rank) (may_take_next g h cpu (turns + suc left) on few) run)
 after_turn g h i v m w d y e cpu fuel left turns Finished a f quiet case cause rank few next (ea, em, ed) =
@@ -172,7 +172,7 @@ stops_within keep (suc fuel) (suc left) turns g i v w d e cpu a f quiet below ra
     let kept = seen-keeps (turn g cpu) v d x.answer x.storage x.disk x.first in
     let case = turn_case _ g v x.storage d x.disk cpu x.answer.0 x.answer.1 f below x.first in
     let f' = keep g v x.storage d x.disk cpu x.answer.0 x.answer.1 f below x.first in
-    let plan = plan_kept g v x.storage d x.disk cpu x.answer.0 x.answer.1 case in
+    let plan = (turn_summary g v x.storage d x.disk cpu x.answer.0 x.answer.1 case).plan in
     let size : length x.answer.0.processors ≡ length g.processors = f'.sizes.processors ∙ ap (λ q. length q.cpus) plan ∙ sym f.sizes.processors in
     after_turn g x.answer.0 i v x.storage w d x.disk e cpu fuel left turns x.answer.1 a f quiet case
     (turn_causes g v x.storage d x.disk cpu x.answer.0 x.answer.1 f below x.first case) rank few

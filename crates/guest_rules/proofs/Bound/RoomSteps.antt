@@ -3,6 +3,7 @@ use Rattle.std.specs.Prelude.{◌≡◌, ◌<◌, ◌≤◌, ◌⊎◌, ◌&&◌
 use Rattle.std.proofs.Common.{arith, set, inl, inr, sym, ap, subst, get_or-set_other, ◌∙◌}
 use Rattle.std.proofs.lemmas.Bool.{cases_eq}
 use Rattle.cmm_types.specs.declared.page.Tag.{Tag}
+use Rattle.cmm_types.specs.declared.page.Tag.TheVariants.{File, Anon}
 use Rattle.cmm_types.specs.declared.command.Op.{Op}
 use Rattle.cmm_types.specs.declared.turn.Turn.TheVariants.{Moved, Again}
 use Rattle.cmm_types.specs.declared.turn.Why.{Why}
@@ -12,7 +13,7 @@ use Rattle.essa_state.specs.PageValue.{PageValue, MayBecome, is_lost}
 use Rattle.cmm_storage.specs.StorageView.{StorageView}
 use Rattle.guest_pages.specs.declared.info.PageInfo.{PageInfo}
 use Rattle.guest_pages.specs.PagesView.{info_at}
-use Rattle.guest_cache.specs.CacheView.{CacheView, index_place, page_of, without_page}
+use Rattle.guest_cache.specs.CacheView.{CacheView, index_place, page_of, without_page, swap_slot, free_swap, assigned, backing_of}
 use Rattle.guest_maps.specs.MapsView.{MapsView}
 use Rattle.guest_maps.specs.Laws.MapsLaws.{slots-without_entries_of}
 use Rattle.guest_rules.specs.declared.parts.Parts.{Parts}
@@ -20,7 +21,7 @@ use Rattle.guest_rules.specs.declared.processor.Phase.TheVariants.{Start, Room a
 use Rattle.guest_rules.specs.GuestState.{GuestState, with_parts, with_phase}
 use Rattle.guest_rules.specs.Rows.{without_tag, freed, handled, with_change}
 use Rattle.guest_rules.specs.Syncs.{locked, cleaned}
-use Rattle.guest_rules.specs.MakeRoom.{lacks_block, is_locked, can_go, first_to_go, locked_to_go, behind}
+use Rattle.guest_rules.specs.MakeRoom.{lacks_block, is_locked, is_pinned, can_go, first_to_go, with_swap_slot, locked_to_go, behind}
 use Rattle.guest_rules.specs.Fit.{Fit}
 use Rattle.guest_rules.proofs.Cases.TurnCases.{RoomCase, room_gone, was_cleared, was_locked_to_go, room_missed, room_waited, had_no_page, page_out_missed, was_paged_out, page_out_failed, Has, SeeksRoom, Goes, PagesOut, IsRehinted}
 use Rattle.guest_rules.proofs.Cases.FirstPage.{IsFirst, CanGo, first_from-Some, first_from-kept, can_go-parts}
@@ -28,11 +29,12 @@ use Rattle.guest_rules.proofs.Causes.Processors.{at_phase}
 use Rattle.guest_rules.proofs.Kept.Changes.{InfoChange}
 use Rattle.guest_rules.proofs.Kept.RowChanges.{changed_info, change-changed, only-changed, maps-changed, freed-free, freed-maps}
 use Rattle.guest_rules.proofs.Kept.SyncTables.{locked_info, cleaned_info, change-locked, change-cleaned, only-locked, only-cleaned, maps-locked, maps-cleaned}
+use Rattle.guest_rules.proofs.Kept.SwapLaws.{page_of-swapped}
 use Rattle.guest_rules.proofs.Kept.Tables.{get_or-set_none}
 use Rattle.guest_rules.proofs.Rows.Values.{may_used}
 use Rattle.guest_rules.proofs.Ready.Ready.{can_be_used}
 use Rattle.guest_rules.proofs.Fit.StepTold.{IsChanged, is_changed}
-use Rattle.guest_rules.proofs.Fit.StepRoom.{locked_to_go-file, pages_out-needs}
+use Rattle.guest_rules.proofs.Fit.StepRoom.{locked_to_go-slotted, pages_out-needs}
 use Rattle.guest_rules.proofs.Bound.WantedKept.{wanted-same}
 use Rattle.guest_rules.proofs.Bound.Ranks.{IsShort, needs-short, Rank, has_command, has_none, room_clean, pages_out_own, start_rank, rank_of, PagesOutOwn}
 use Rattle.guest_rules.proofs.Bound.RoomRanks.{IsUnclean, rank-seeks, rank-unclean, rank-pages_out}
@@ -94,19 +96,76 @@ can_go-clean parts info tag tagged unlocked unpinned clean =
     goes_clean (is_none info.tag) (is_locked info) (nat_eq info.pins 0) (lacks_block parts.cache info.tag) info.dirty (ap is_none tagged) (ap (λ o. not (is_none o)) unlocked)
     (ap (λ n. nat_eq n 0) unpinned) clean
 
-can_go-same : (old new : Parts) (info : PageInfo) → new.cache ≡ old.cache → can_go new info ≡ can_go old info
-can_go-same old new info same = ap (λ (c : CacheView). let other : Parts = record old { cache = c } in can_go other info) same
+-- where no swap slot is free none is assigned
+none-assigned : (cache : CacheView) (tag : Tag) → free_swap cache ≡ None → with_swap_slot cache (Some tag) ≡ cache
+none-assigned cache (File file index) none = refl
+none-assigned cache (Anon slot index) none = of (swap_slot cache (Anon slot index)) refl
+  where
+    of : (o : Option ℕ) → swap_slot cache (Anon slot index) ≡ o → with_swap_slot cache (Some (Anon slot index)) ≡ cache
+    of (Some number) found = rw found refl
+    of None fails =
+        let w : with_swap_slot cache (Some (Anon slot index)) ≡ assigned cache (Anon slot index) (free_swap cache) = rw fails refl in
+        w ∙ ap (assigned cache (Anon slot index)) none
 
-hand-written : (parts : Parts) (page cpu : ℕ) (changed : Bool) → (cleaned (locked (with_change parts page changed) page cpu) page).hand ≡ parts.hand
+and_false : (b : Bool) → (b && false) ≡ false
+and_false true = refl
+and_false false = refl
+
+-- a tag that lacks no block once a page got its swap slot lacked none before
+lacks-slot : (cache : CacheView) (tag : Tag) (other : Option Tag) → lacks_block (with_swap_slot cache (Some tag)) other ≡ false → lacks_block cache other ≡ false
+lacks-slot cache tag None e = refl
+lacks-slot cache tag (Some other) e = of (free_swap cache) refl
+  where
+    of : (o : Option ℕ) → free_swap cache ≡ o → lacks_block cache (Some other) ≡ false
+    of (Some number) free = ap (λ (o : Option ℕ). is_none (backing_of cache other) && is_none o) free ∙ and_false (is_none (backing_of cache other))
+    of None free = ap (λ (c : CacheView). lacks_block c (Some other)) (sym (none-assigned cache tag free)) ∙ e
+
+goes_if_clean : (untagged locked pinned dirty lacks : Bool) → (not untagged && (not locked && (not pinned && not (dirty && true)))) ≡ true
+    → (not untagged && (not locked && (not pinned && not (dirty && lacks)))) ≡ true
+goes_if_clean untagged locked pinned dirty lacks e = grind arith
+
+goes_as : (untagged locked pinned dirty lacks later : Bool) → (later ≡ false → lacks ≡ false) → (not untagged && (not locked && (not pinned && not (dirty && later)))) ≡ true
+    → (not untagged && (not locked && (not pinned && not (dirty && lacks)))) ≡ true
+goes_as untagged locked pinned dirty lacks true k e = goes_if_clean untagged locked pinned dirty lacks e
+goes_as untagged locked pinned dirty lacks false k e = rw (k refl) e
+
+-- so a page that can go then could go before
+can_go-slot : (old new : Parts) (info : PageInfo) (tag : Tag) → new.cache ≡ with_swap_slot old.cache (Some tag) → can_go new info ≡ true → can_go old info ≡ true
+can_go-slot old new info tag same passes =
+    goes_as (is_none info.tag) (is_locked info) (is_pinned info) info.dirty (lacks_block old.cache info.tag) (lacks_block new.cache info.tag)
+    (λ e. lacks-slot old.cache tag info.tag (ap (λ (c : CacheView). lacks_block c info.tag) (sym same) ∙ e)) passes
+
+-- no tag has another page
+page_of-slot : (cache : CacheView) (tag other : Tag) → page_of (with_swap_slot cache (Some tag)) other ≡ page_of cache other
+page_of-slot cache (File file index) other = refl
+page_of-slot cache (Anon slot index) other = of (swap_slot cache (Anon slot index)) refl
+  where
+    next : (o : Option ℕ) → page_of (assigned cache (Anon slot index) o) other ≡ page_of cache other
+    next None = refl
+    next (Some number) = page_of-swapped cache (assigned cache (Anon slot index) (Some number)) other refl refl
+
+    of : (o : Option ℕ) → swap_slot cache (Anon slot index) ≡ o → page_of (with_swap_slot cache (Some (Anon slot index))) other ≡ page_of cache other
+    of (Some number) found =
+        let w : with_swap_slot cache (Some (Anon slot index)) ≡ cache = rw found refl in
+        ap (λ (c : CacheView). page_of c other) w
+    of None fails =
+        let w : with_swap_slot cache (Some (Anon slot index)) ≡ assigned cache (Anon slot index) (free_swap cache) = rw fails refl in
+        ap (λ (c : CacheView). page_of c other) w ∙ next (free_swap cache)
+
+-- the tables in which the page that goes has its swap slot
+abbrev to_go : Parts → (page : ℕ) → (changed : Bool) → Tag → Parts
+to_go parts page changed tag = record (with_change parts page changed) { cache = with_swap_slot (with_change parts page changed).cache (Some tag) }
+
+hand-written : (parts : Parts) (page cpu : ℕ) (changed : Bool) (tag : Tag) → (cleaned (locked (to_go parts page changed tag) page cpu) page).hand ≡ parts.hand
 unfolding cleaned locked
-hand-written parts page cpu true = refl
-hand-written parts page cpu false = refl
+hand-written parts page cpu true tag = refl
+hand-written parts page cpu false tag = refl
 
 -- a page that is locked to go is the first that can go once it is written back
-goes_next : (g : GuestState) (cpu : ℕ) (tag : Tag) (page : ℕ) (changed : Bool) → Goes g tag page → first_to_go (cleaned (locked (with_change g.parts page changed) page cpu) page) ≡ Some page
+goes_next : (g : GuestState) (cpu : ℕ) (tag : Tag) (page : ℕ) (changed : Bool) → Goes g tag page → first_to_go (cleaned (locked (to_go g.parts page changed tag) page cpu) page) ≡ Some page
 goes_next g cpu tag page changed goes =
     first_from-kept g.parts after (can_go g.parts) (can_go after) page goes.first (record {
-      hand = hand-written g.parts page cpu changed;
+      hand = hand-written g.parts page cpu changed tag;
       size = cleans.size ∙ locks.size ∙ found.size;
       passes = can_go-clean after (info_at after.pages page) tag
           (ap (λ (i : PageInfo). i.tag) cleans.here ∙ ap (λ (i : PageInfo). i.tag) locks.here ∙ ap (λ (i : PageInfo). i.tag) found.here ∙ its.tag ∙ goes.has.tagged)
@@ -116,17 +175,18 @@ goes_next g cpu tag page changed goes =
       worse = λ i lt passes. elim (cases_eq i page) [
         | inl same ↦ subst (λ n. can_go g.parts (info_at g.parts.pages n) ≡ true) (sym same) first.passes
         | inr other ↦
-            ap (can_go g.parts) (sym (cleans.others i other ∙ locks.others i other ∙ found.others i other))
-            ∙ sym (can_go-same g.parts after (info_at after.pages i) cache)
-            ∙ passes
+            can_go-slot g.parts after (info_at g.parts.pages i) tag cache (ap (can_go after) (sym (cleans.others i other ∙ locks.others i other ∙ found.others i other)) ∙ passes)
       ];
     })
   where
     middle : Parts
     middle = with_change g.parts page changed
 
+    slotted : Parts
+    slotted = to_go g.parts page changed tag
+
     held : Parts
-    held = locked middle page cpu
+    held = locked slotted page cpu
 
     after : Parts
     after = cleaned held page
@@ -135,7 +195,7 @@ goes_next g cpu tag page changed goes =
     found = change-changed g.parts page changed goes.has.below
 
     locks : InfoChange middle.pages held.pages page (locked_info cpu (info_at middle.pages page))
-    locks = change-locked middle page cpu (rw found.size goes.has.below)
+    locks = change-locked slotted page cpu (rw found.size goes.has.below)
 
     cleans : InfoChange held.pages after.pages page (cleaned_info (info_at held.pages page))
     cleans = change-cleaned held page (rw (locks.size, found.size) goes.has.below)
@@ -149,25 +209,26 @@ goes_next g cpu tag page changed goes =
     can : CanGo g.parts (info_at g.parts.pages page)
     can = can_go-parts g.parts (info_at g.parts.pages page) first.passes
 
-    cache : after.cache ≡ g.parts.cache
-    cache = (only-cleaned held page).cache ∙ (only-locked middle page cpu).cache ∙ (only-changed g.parts page changed).cache
+    cache : after.cache ≡ with_swap_slot g.parts.cache (Some tag)
+    cache = (only-cleaned held page).cache ∙ (only-locked slotted page cpu).cache ∙ ap (λ (c : CacheView). with_swap_slot c (Some tag)) (only-changed g.parts page changed).cache
 
 held_rank : (g : GuestState) (w : StorageView) (cpu : ℕ) (op : Op) (tag : Tag) (page left : ℕ) (changed : Bool) → SeeksRoom g cpu op → Goes g tag page → (w.values page).changed ≡ false → 6 ≤ left
-    → Rank (with_phase (with_parts g (locked (with_change g.parts page changed) page cpu)) cpu (AtRoom page)) w cpu left
+    → Rank (with_phase (with_parts g (locked (to_go g.parts page changed tag) page cpu)) cpu (AtRoom page)) w cpu left
 unfolding with_phase
 held_rank g w cpu op tag page left changed k goes unchanged h =
     let middle = with_change g.parts page changed in
-    let held = locked middle page cpu in
+    let slotted = to_go g.parts page changed tag in
+    let held = locked slotted page cpu in
     let at = at_phase g cpu op held (AtRoom page) k.starts.has in
-    let only = only-locked middle page cpu in
+    let only = only-locked slotted page cpu in
     let before = only-changed g.parts page changed in
-    let slots = ap (λ (m : MapsView). m.slots) (maps-locked middle page cpu ∙ maps-changed g.parts page changed) in
+    let slots = ap (λ (m : MapsView). m.slots) (maps-locked slotted page cpu ∙ maps-changed g.parts page changed) in
     has_command op at.command
     (pages_out_own page (record {
       phase = at.phase_is;
       tag = k.tag;
       wants = wanted-same g.parts held (process_of g.plan cpu) op slots ∙ k.wants;
-      none = ap (λ (c : CacheView). page_of c k.tag) (only.cache ∙ before.cache) ∙ k.none;
+      none = ap (λ (c : CacheView). page_of c k.tag) only.cache ∙ page_of-slot middle.cache tag k.tag ∙ ap (λ (c : CacheView). page_of c k.tag) before.cache ∙ k.none;
       full = only.free ∙ before.free ∙ k.full;
       next = goes_next g cpu tag page changed goes;
       unchanged = unchanged;
@@ -180,7 +241,7 @@ locked_rank g v w d cpu op tag page left changed f k goes unchanged h =
     let tagged : (info_at (with_change g.parts page changed).pages page).tag ≡ Some tag =
     ap (λ (i : PageInfo). i.tag) (change-changed g.parts page changed goes.has.below).here ∙ (is_changed (info_at g.parts.pages page) changed).tag ∙ goes.has.tagged in
     subst (λ (q : Parts). Rank (with_phase (with_parts g q) cpu (AtRoom page)) w cpu left)
-    (sym (locked_to_go-file (with_change g.parts page changed) page cpu tag tagged (f.pins.of_files page tag goes.has.tagged)))
+    (sym (locked_to_go-slotted (with_change g.parts page changed) page cpu tag tagged))
     (held_rank g w cpu op tag page left changed k goes unchanged h)
 
 -- ---- it was written back

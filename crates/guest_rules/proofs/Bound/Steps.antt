@@ -24,7 +24,7 @@ use Rattle.guest_rules.specs.GuestState.{GuestState, processor_at, with_parts, w
 use Rattle.guest_rules.specs.Rows.{filled, handled, mapped}
 use Rattle.guest_rules.specs.Turns.{begun}
 use Rattle.guest_rules.specs.Fit.{Fit}
-use Rattle.guest_rules.proofs.Cases.TurnCases.{TurnCase, was_idle, was_refused, was_mapped, waited, missed, missed_rehinted, was_begun, was_gone, was_read, was_written, touch_failed, was_resolved, was_loaded, was_stored, entry_failed, fill_failed, was_filled, Has, Starts, Wants, Maps, HasPage, IsRehinted, was_pinned, was_sync, was_room, was_unmapped, was_torn}
+use Rattle.guest_rules.proofs.Cases.TurnCases.{TurnCase, was_idle, was_refused, was_mapped, was_mapped_own, waited, missed, missed_rehinted, was_begun, was_gone, was_read, was_written, touch_failed, was_resolved, was_loaded, was_stored, entry_failed, fill_failed, was_filled, Has, Starts, Wants, Maps, HasPage, IsRehinted, was_pinned, was_sync, was_room, was_unmapped, was_torn, was_torn_own}
 use Rattle.guest_rules.proofs.Causes.Processors.{at_phase}
 use Rattle.guest_rules.proofs.Causes.CauseForms.{fills_needing}
 use Rattle.guest_rules.proofs.Kept.Tables.{page_of-handled, tag-begun}
@@ -35,7 +35,7 @@ use Rattle.guest_rules.proofs.Fit.StepResolved.{through}
 use Rattle.guest_rules.proofs.Bound.WantedKept.{wanted-same, maps-same}
 use Rattle.guest_rules.proofs.Bound.SyncSteps.{sync_step, sync_never_again}
 use Rattle.guest_rules.proofs.Bound.RoomSteps.{room_step, room_never_again}
-use Rattle.guest_rules.proofs.Bound.TearSteps.{unmapped_rank, tear_step, tear_never_again}
+use Rattle.guest_rules.proofs.Bound.TearSteps.{unmapped_rank, tear_step, tear_own_step, tear_never_again, tear_own_never_again}
 use Rattle.guest_rules.proofs.Bound.Ranks.{IsShort, needs-short, Rank, has_command, served, has_page, fills_own, has_none, start_rank, rank_of, rank-none, rank-lost, rank-unserved, rank-fills}
 
 -- a free page is one of the guest's
@@ -60,7 +60,8 @@ gone_rank g w cpu op tag page left starts wants has h =
     let slots = ap (λ (m : MapsView). m.slots) (handled-maps g.parts page ∙ freed-maps g.parts page) ∙ slots-without_entries_of g.parts.maps page in
     let next : (handled g.parts page).pages.free ≡ page ∷ g.parts.pages.free = ap (λ (p : PagesView). p.free) (handled-pages g.parts page) ∙ freed-free g.parts page in
     let free : (handled g.parts page).pages.free ≢ [] = λ full. let bad : page ∷ g.parts.pages.free ≡ [] = sym next ∙ full in cc in
-    has_command op starts.has.command (has_none tag starts.start (wanted-same g.parts (handled g.parts page) (process_of g.plan cpu) op slots ∙ wants) (page_of-handled g.parts page tag has.tagged) free h)
+    has_command op starts.has.command
+    (has_none tag starts.start (wanted-same g.parts (handled g.parts page) (process_of g.plan cpu) op slots ∙ wants) (page_of-handled g.parts page tag has.tagged) free h)
 
 place_below : (slot index count : ℕ) → slot < MAX_MAPPING_SLOTS → index < MAX_MAPPING_PAGES → count ≡ MAX_MAPPING_SLOTS * MAX_MAPPING_PAGES → place_at slot index < count
 place_below slot index count below within size = omega (arith, below, within, size)
@@ -141,6 +142,7 @@ pub rank_step : (g : GuestState) (v w : StorageView) (d e : DiskView) (cpu left 
 rank_step g v w d e cpu left h f quiet (was_idle none eh et ew ee) rank = absurd (cc et)
 rank_step g v w d e cpu left h f quiet (was_refused op refusal has start refused eh et ew ee) rank = absurd (cc et)
 rank_step g v w d e cpu left h f quiet (was_mapped number file first count writable slot starts free eh et ew ee) rank = absurd (cc et)
+rank_step g v w d e cpu left h f quiet (was_mapped_own number count slot starts free eh et ew ee) rank = absurd (cc et)
 rank_step g v w d e cpu left h f quiet (waited op page owner starts its locked eh et ew ee) rank = absurd (cc et)
 rank_step g v w d e cpu left h f quiet (missed op why has eh et may misses ee) rank = absurd (cc et)
 rank_step g v w d e cpu left h f quiet (missed_rehinted why op tag page found after starts wants has eh et back may told misses ee) rank = absurd (cc et)
@@ -171,13 +173,15 @@ rank_step g v w d e cpu left h f quiet (was_sync file index k) rank = sync_step 
 rank_step g v w d e cpu left h f quiet (was_room op k) rank = room_step g v w d e cpu op left h f k rank
 rank_step g v w d e cpu left h f quiet (was_unmapped number slot starts found eh et ew ee) rank =
     rw eh (unmapped_rank g v w cpu number slot left starts found (rank_of g v cpu (Unmap number) (suc left) starts.has.command rank))
-rank_step g v w d e cpu left h f quiet (was_torn slot index k) rank = tear_step g v w d e cpu slot index left h f k rank
+rank_step g v w d e cpu left h f quiet (was_torn slot index its k) rank = tear_step g v w d e cpu slot index left h f k rank
+rank_step g v w d e cpu left h f quiet (was_torn_own slot index its k) rank = tear_own_step g v w d e cpu slot index left h k rank
 
 -- and no turn has to be taken again
 pub never_again : (g : GuestState) (v w : StorageView) (d e : DiskView) (cpu : ℕ) (h : GuestState) (why : Why) → v.quiet ≡ true → TurnCase g cpu v d h (Again why) w e → ⊥
 never_again g v w d e cpu h why quiet (was_idle none eh et ew ee) = cc et
 never_again g v w d e cpu h why quiet (was_refused op refusal has start refused eh et ew ee) = cc et
 never_again g v w d e cpu h why quiet (was_mapped number file first count writable slot starts free eh et ew ee) = cc et
+never_again g v w d e cpu h why quiet (was_mapped_own number count slot starts free eh et ew ee) = cc et
 never_again g v w d e cpu h why quiet (waited op page owner starts its locked eh et ew ee) = cc et
 never_again g v w d e cpu h why quiet (missed op why' has eh et may misses ee) = let bad : true ≡ false = sym quiet ∙ misses.not_quiet in cc
 never_again g v w d e cpu h why quiet (missed_rehinted why' op tag page found after starts wants has eh et back may told misses ee) = let bad : true ≡ false = sym quiet ∙ misses.not_quiet in cc
@@ -196,4 +200,5 @@ never_again g v w d e cpu h why quiet (was_filled op page tag has phase tagged e
 never_again g v w d e cpu h why quiet (was_sync file index k) = sync_never_again g v w d e cpu file index h why quiet k
 never_again g v w d e cpu h why quiet (was_room op k) = room_never_again g v w d e cpu op h why quiet k
 never_again g v w d e cpu h why quiet (was_unmapped number slot starts found eh et ew ee) = cc et
-never_again g v w d e cpu h why quiet (was_torn slot index k) = tear_never_again g v w d e cpu slot index h why quiet k
+never_again g v w d e cpu h why quiet (was_torn slot index its k) = tear_never_again g v w d e cpu slot index h why quiet k
+never_again g v w d e cpu h why quiet (was_torn_own slot index its k) = tear_own_never_again g v w d e cpu slot index h why quiet k

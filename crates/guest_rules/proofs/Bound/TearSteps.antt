@@ -14,17 +14,17 @@ use Rattle.guest_maps.specs.Laws.MapsLaws.{slot_at-torn_slot_same}
 use Rattle.guest_rules.specs.declared.parts.Parts.{Parts}
 use Rattle.guest_rules.specs.declared.processor.Phase.TheVariants.{Start, Teardown}
 use Rattle.guest_rules.specs.GuestState.{GuestState, processor_at, with_parts, with_phase, answered}
-use Rattle.guest_rules.specs.Rows.{handled}
+use Rattle.guest_rules.specs.Rows.{handled, freed, released}
 use Rattle.guest_rules.specs.Turns.{mapping_pages}
 use Rattle.guest_rules.specs.Fit.{Fit}
 use Rattle.guest_rules.specs.Alone.{found_pages, pages_to_tear}
-use Rattle.guest_rules.proofs.Cases.TurnCases.{TearCase, had_no_entry, tear_missed, tear_gone, was_cleared_at, Starts, Tears}
+use Rattle.guest_rules.proofs.Cases.TurnCases.{TearCase, had_no_entry, tear_missed, tear_gone, was_cleared_at, TearOwnCase, had_no_page_of_its, tear_waited, tear_own_missed, was_torn_off, Starts, Tears}
 use Rattle.guest_rules.proofs.Cases.MapsFound.{found_slot}
 use Rattle.guest_rules.proofs.Cases.TornPast.{tears_on, has_ended}
 use Rattle.guest_rules.proofs.Kept.SlotsKept.{slot-below}
 use Rattle.guest_rules.proofs.Causes.Processors.{processor-answered, at_phase}
 use Rattle.guest_rules.proofs.Causes.TornSlots.{IsPast, is_past}
-use Rattle.guest_rules.proofs.Causes.TakenOff.{taken-handled, taken-cleared, tearing_has}
+use Rattle.guest_rules.proofs.Causes.TakenOff.{taken-handled, taken-cleared, slots-released, slots-torn_off, tearing_has}
 use Rattle.guest_rules.proofs.Causes.TearCauses.{unmapping}
 use Rattle.guest_rules.proofs.Bound.Ranks.{Rank, has_command, tears, OpRank, rank_of}
 use Rattle.guest_rules.proofs.Bound.TearRanks.{rank-unmaps, rank-tears}
@@ -94,6 +94,14 @@ tear_goes_on g v w d e cpu slot index h f (tear_gone tag pte found k entry has b
 tear_goes_on g v w d e cpu slot index h f (was_cleared_at tag pte found after k entry shows back may told passes) =
     gone_on g cpu slot index after h k (taken-cleared g v w d cpu slot index pte found after f k entry told).slots (is_past g cpu slot index after h Moved passes)
 
+pub tear_own_goes_on : (g : GuestState) (v w : StorageView) (d e : DiskView) (cpu slot index : ℕ) (h : GuestState) → TearOwnCase g cpu slot index v d h Moved w e → HasGoneOn g cpu slot index h
+tear_own_goes_on g v w d e cpu slot index h (had_no_page_of_its k none passes ew ee) =
+    let after = released g.parts slot index in gone_on g cpu slot index after h k (slots-released g slot index) (is_past g cpu slot index after h Moved passes)
+tear_own_goes_on g v w d e cpu slot index h (tear_waited page owner k found locked eh et ew ee) = absurd (cc et)
+tear_own_goes_on g v w d e cpu slot index h (tear_own_missed why k eh et may misses ee) = absurd (cc et)
+tear_own_goes_on g v w d e cpu slot index h (was_torn_off page found k has back may unused passes) =
+    let after = released (freed g.parts page) slot index in gone_on g cpu slot index after h k (slots-torn_off g slot index page) (is_past g cpu slot index after h Moved passes)
+
 -- the mapping has as many pages, and the processor is at the next
 pub pages-gone_on : (g : GuestState) (cpu slot index : ℕ) (h : GuestState) → HasGoneOn g cpu slot index h → mapping_pages (slot_at h.parts.maps slot) ≡ mapping_pages (slot_at g.parts.maps slot)
 unfolding with_phase
@@ -120,6 +128,10 @@ pub tear_step : (g : GuestState) (v w : StorageView) (d e : DiskView) (cpu slot 
     → Rank h w cpu left
 tear_step g v w d e cpu slot index left h f k rank = gone_on_rank g v w cpu slot index left h rank (tear_goes_on g v w d e cpu slot index h f k)
 
+pub tear_own_step : (g : GuestState) (v w : StorageView) (d e : DiskView) (cpu slot index left : ℕ) (h : GuestState) → TearOwnCase g cpu slot index v d h Moved w e → Rank g v cpu (suc left)
+    → Rank h w cpu left
+tear_own_step g v w d e cpu slot index left h k rank = gone_on_rank g v w cpu slot index left h rank (tear_own_goes_on g v w d e cpu slot index h k)
+
 torn_past_not_again : (g : GuestState) (cpu slot index : ℕ) (after : Parts) (h : GuestState) (why : Why) → IsPast g cpu slot index after h (Again why) → ⊥
 torn_past_not_again g cpu slot index after h why (tears_on more eh et) = cc et
 torn_past_not_again g cpu slot index after h why (has_ended last eh et) = cc et
@@ -133,3 +145,12 @@ tear_never_again g v w d e cpu slot index h why quiet (tear_gone tag pte found k
     torn_past_not_again g cpu slot index _ h why (is_past g cpu slot index (handled g.parts pte.page) h (Again why) passes)
 tear_never_again g v w d e cpu slot index h why quiet (was_cleared_at tag pte found after k entry shows back may told passes) =
     torn_past_not_again g cpu slot index after h why (is_past g cpu slot index after h (Again why) passes)
+
+pub tear_own_never_again : (g : GuestState) (v w : StorageView) (d e : DiskView) (cpu slot index : ℕ) (h : GuestState) (why : Why) → v.quiet ≡ true
+    → TearOwnCase g cpu slot index v d h (Again why) w e → ⊥
+tear_own_never_again g v w d e cpu slot index h why quiet (had_no_page_of_its k none passes ew ee) =
+    torn_past_not_again g cpu slot index _ h why (is_past g cpu slot index (released g.parts slot index) h (Again why) passes)
+tear_own_never_again g v w d e cpu slot index h why quiet (tear_waited page owner k found locked eh et ew ee) = cc et
+tear_own_never_again g v w d e cpu slot index h why quiet (tear_own_missed why' k eh et may misses ee) = let bad : true ≡ false = sym quiet ∙ misses.not_quiet in cc
+tear_own_never_again g v w d e cpu slot index h why quiet (was_torn_off page found k has back may unused passes) =
+    torn_past_not_again g cpu slot index _ h why (is_past g cpu slot index (released (freed g.parts page) slot index) h (Again why) passes)

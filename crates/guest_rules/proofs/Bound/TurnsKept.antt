@@ -14,11 +14,11 @@ use Rattle.guest_rules.specs.GuestState.{GuestState, processor_at}
 use Rattle.guest_rules.specs.Turns.{file_pages}
 use Rattle.guest_rules.specs.Fit.{Fit}
 use Rattle.guest_rules.specs.Alone.{pages_to_tear, turns_of}
-use Rattle.guest_rules.proofs.Cases.TurnCases.{TurnCase, was_idle, was_refused, was_mapped, waited, missed, missed_rehinted, was_begun, was_gone, was_read, was_written, touch_failed, was_resolved, was_loaded, was_stored, entry_failed, fill_failed, was_filled, was_pinned, was_sync, SyncCase, not_there, sync_waited, sync_missed, sync_gone, was_clean, was_locked, write_missed, was_written_back, write_failed, was_room, RoomCase, room_gone, was_cleared, was_locked_to_go, room_missed, room_waited, had_no_page, page_out_missed, was_paged_out, page_out_failed, was_unmapped, was_torn, Has, Starts, Wants}
+use Rattle.guest_rules.proofs.Cases.TurnCases.{TurnCase, was_idle, was_refused, was_mapped, was_mapped_own, waited, missed, missed_rehinted, was_begun, was_gone, was_read, was_written, touch_failed, was_resolved, was_loaded, was_stored, entry_failed, fill_failed, was_filled, was_pinned, was_sync, SyncCase, not_there, sync_waited, sync_missed, sync_gone, was_clean, was_locked, write_missed, was_written_back, write_failed, was_room, RoomCase, room_gone, was_cleared, was_locked_to_go, room_missed, room_waited, had_no_page, page_out_missed, was_paged_out, page_out_failed, was_unmapped, was_torn, was_torn_own, Has, Starts, Wants}
 use Rattle.guest_rules.proofs.Causes.CauseForms.{phase_after, fills_no_unmap, pages_out_no_unmap}
 use Rattle.guest_rules.proofs.Causes.TakenOff.{tearing_has}
 use Rattle.guest_rules.proofs.Bound.Ranks.{wants_not_unmap}
-use Rattle.guest_rules.proofs.Bound.TearSteps.{HasBegun, has_begun, HasGoneOn, tear_goes_on, pages-gone_on}
+use Rattle.guest_rules.proofs.Bound.TearSteps.{HasBegun, has_begun, HasGoneOn, tear_goes_on, tear_own_goes_on, pages-gone_on}
 
 -- the processor's command is an unmap of this number
 abbrev Unmaps : GuestState → (cpu number : ℕ) → Type 0
@@ -80,6 +80,7 @@ pages_kept : (g : GuestState) (v w : StorageView) (d e : DiskView) (cpu number :
 pages_kept g v w d e cpu number h f command (was_idle none eh et ew ee) = absurd (cc et)
 pages_kept g v w d e cpu number h f command (was_refused op refusal has start refused eh et ew ee) = absurd (cc et)
 pages_kept g v w d e cpu number h f command (was_mapped other file first count writable slot starts free eh et ew ee) = absurd (cc et)
+pages_kept g v w d e cpu number h f command (was_mapped_own other count slot starts free eh et ew ee) = absurd (cc et)
 pages_kept g v w d e cpu number h f command (waited op page owner starts its locked eh et ew ee) = absurd (cc et)
 pages_kept g v w d e cpu number h f command (missed op why has eh et may misses ee) = absurd (cc et)
 pages_kept g v w d e cpu number h f command (missed_rehinted why op tag page found after starts wants has eh et back may told misses ee) = absurd (cc et)
@@ -105,7 +106,8 @@ pages_kept g v w d e cpu number h f command (was_unmapped other slot starts foun
     let is : Unmap other ≡ Unmap number = one_command g cpu number (Unmap other) command starts.has.command in
     let same : other ≡ number = cc is in
     subst (λ n. ToTear h cpu n ≡ ToTear g cpu n) same (pages-begun g cpu other slot h starts (subst (HasBegun g cpu other slot) (sym eh) (has_begun g cpu other slot starts found)))
-pages_kept g v w d e cpu number h f command (was_torn slot index k) = pages-next g cpu number slot index h (tear_goes_on g v w d e cpu slot index h f k)
+pages_kept g v w d e cpu number h f command (was_torn slot index its k) = pages-next g cpu number slot index h (tear_goes_on g v w d e cpu slot index h f k)
+pages_kept g v w d e cpu number h f command (was_torn_own slot index its k) = pages-next g cpu number slot index h (tear_own_goes_on g v w d e cpu slot index h k)
 
 pub turns_kept : (g : GuestState) (v w : StorageView) (d e : DiskView) (cpu : ℕ) (op : Op) (h : GuestState) → Fit g v d → command_of g.plan cpu (processor_at g cpu).place ≡ Some op
     → h.plan ≡ g.plan → TurnCase g cpu v d h Moved w e → turns_of h cpu op ≡ turns_of g cpu op

@@ -19,7 +19,8 @@ tag_in-same : (old new : Parts) (o : Option ℕ) (index : ℕ) → new.maps.slot
 tag_in-same old new None index same = refl
 tag_in-same old new (Some slot) index same = tag-same old.maps new.maps slot index same
 
-tag_found : (old new : Parts) (process number index : ℕ) → new.maps.slots ≡ old.maps.slots → found_tag new (find_slot new.maps process number) index ≡ found_tag old (find_slot old.maps process number) index
+tag_found : (old new : Parts) (process number index : ℕ) → new.maps.slots ≡ old.maps.slots
+    → found_tag new (find_slot new.maps process number) index ≡ found_tag old (find_slot old.maps process number) index
 tag_found old new process number index same = ap (λ o. found_tag new o index) (found_same old new process number same) ∙ tag_in-same old new (find_slot old.maps process number) index same
 
 pub wanted-same : (old new : Parts) (process : ℕ) (op : Op) → new.maps.slots ≡ old.maps.slots → wanted_tag new process op ≡ wanted_tag old process op

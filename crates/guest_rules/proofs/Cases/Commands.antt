@@ -7,7 +7,6 @@ use Rattle.cmm_types.specs.declared.plan.CpuPlan.{CpuPlan}
 use Rattle.cmm_types.specs.declared.plan.GuestPlan.{GuestPlan}
 use Rattle.cmm_types.specs.InRange.{OpInRange, CpuInRange, GuestInRange}
 use Rattle.cmm_flat.specs.Legal.{command_of, process_of}
-use Rattle.guest_rules.specs.Built.{IsBuiltOp, GuestIsBuilt}
 use Rattle.guest_rules.specs.Fit.{commands_of}
 
 -- the plan of a processor that has a command
@@ -30,11 +29,6 @@ pub command-in_range : (plan : GuestPlan) (cpu k : ℕ) (op : Op) → GuestInRan
 command-in_range plan cpu k op range e =
     let at = commanded plan cpu k op e in
     element OpInRange at.its.commands k op (element CpuInRange plan.cpus cpu at.its range.cpus.each at.there).commands at.command
-
-pub command-built : (plan : GuestPlan) (cpu k : ℕ) (op : Op) → GuestIsBuilt plan → command_of plan cpu k ≡ Some op → IsBuiltOp op
-command-built plan cpu k op built e =
-    let at = commanded plan cpu k op e in
-    element IsBuiltOp at.its.commands k op (element (λ (c : CpuPlan). All IsBuiltOp c.commands) plan.cpus cpu at.its built at.there) at.command
 
 pub command-below : (plan : GuestPlan) (cpu k : ℕ) (op : Op) → command_of plan cpu k ≡ Some op → k < commands_of plan cpu
 command-below plan cpu k op e =

@@ -1,11 +1,11 @@
 -- Every run of a turn is one of its cases.
-use Rattle.std.specs.Prelude.{◌≡◌, ◌<◌, ℕ, ◌/◌, List, [], ◌∷◌, length, Bool, true, false, not, ◌&&◌, if◌then◌else◌, Option, Some, None, refl}
+use Rattle.std.specs.Prelude.{◌≡◌, ◌<◌, ℕ, ◌*◌, ◌/◌, List, [], ◌∷◌, length, Bool, true, false, not, ◌&&◌, if◌then◌else◌, Option, Some, None, refl}
 use Rattle.std.proofs.Common.{ap, sym, subst, ◌∙◌, inl, inr}
 use Rattle.cmm_types.specs.declared.page.TheConstants.{PAGE}
 use Rattle.cmm_types.specs.declared.page.Tag.{Tag}
 use Rattle.cmm_types.specs.declared.page.Tag.TheVariants.{File}
 use Rattle.cmm_types.specs.declared.command.Op.{Op}
-use Rattle.cmm_types.specs.declared.command.Op.TheVariants.{Read, Write, MapFile, Unmap, Load, Store, Pin, Unpin, Sync}
+use Rattle.cmm_types.specs.declared.command.Op.TheVariants.{Read, Write, MapFile, MapAnon, Unmap, Load, Store, Pin, Unpin, Sync}
 use Rattle.cmm_types.specs.declared.command.FlatRefusal.{FlatRefusal}
 use Rattle.cmm_types.specs.declared.command.FlatRefusal.TheVariants.{NoMapping}
 use Rattle.cmm_types.specs.declared.turn.Turn.{Turn}
@@ -17,17 +17,15 @@ use Rattle.cmm_storage.specs.Views.{Seen}
 use Rattle.guest_pages.specs.PagesView.{info_at}
 use Rattle.guest_cache.specs.CacheView.{page_of}
 use Rattle.guest_maps.specs.declared.slot.Pte.{Pte}
-use Rattle.guest_maps.specs.declared.slot.Shown.TheVariants.{File as OfFile}
+use Rattle.guest_maps.specs.declared.slot.Shown.TheVariants.{File as OfFile, Anon as OfItsOwn}
 use Rattle.guest_maps.specs.MapsView.{find_slot, free_slot, entry_at, tag_at}
 use Rattle.guest_rules.specs.declared.processor.Phase.{Phase}
 use Rattle.guest_rules.specs.declared.processor.Phase.TheVariants.{Start, Fill, Room as AtRoom, Sync as AtSync, SyncWrite, Teardown}
 use Rattle.guest_rules.specs.GuestState.{GuestState, processor_at}
-use Rattle.guest_rules.specs.Built.{IsBuiltOp}
-use Rattle.guest_rules.specs.Turns.{turn, turn_on, turn_in, start_turn, start_refused, start_accepted, start_mapped, start_placed, start_entry, start_at, start_tagged, start_found, start_free, start_locked, hit_turn, map_turn, unmap_turn, refusal_at, refusal_of_unmap, refusal_in, sync_turn, write_back_turn}
+use Rattle.guest_rules.specs.Turns.{file_has_bytes, turn, turn_on, turn_in, start_turn, start_refused, start_accepted, start_mapped, start_placed, start_entry, start_at, start_tagged, start_found, start_free, start_locked, hit_turn, map_turn, unmap_turn, refusal_at, refusal_of_unmap, refusal_in, sync_turn, write_back_turn}
 use Rattle.guest_rules.specs.Fit.{FitAt}
-use Rattle.guest_rules.proofs.Cases.TurnCases.{TurnCase, was_idle, was_refused, was_mapped, waited, Has, Starts, CanBeSet, pin_op, was_sync, was_room, was_unmapped, was_torn, Syncs}
+use Rattle.guest_rules.proofs.Cases.TurnCases.{TurnCase, was_idle, was_refused, was_mapped, was_mapped_own, waited, Has, Starts, CanBeSet, pin_op, was_sync, was_room, was_unmapped, Syncs}
 use Rattle.guest_rules.proofs.Ready.Ready.{found_page}
-use Rattle.guest_rules.proofs.Cases.Commands.{command-built}
 use Rattle.guest_rules.proofs.Cases.Reached.{Proceeds, Reaches, reads, overwrites, sets, load_reaches, store_reaches, has_free_slot, places}
 use Rattle.guest_rules.proofs.Cases.WantedTags.{IsWanted, is_wanted, sync-file}
 use Rattle.guest_rules.proofs.Cases.FileSizes.{file_pages-some}
@@ -132,9 +130,18 @@ case_placed state g v w d e cpu pins number index (Some slot) h t f starts found
 case_map : (state : FlatState) (g : GuestState) (v w : StorageView) (d e : DiskView) (cpu number file first count : ℕ) (writable : Bool) (free : Option ℕ) (h : GuestState) (t : Turn)
     → FitAt state g v d → Starts g cpu (MapFile number file first count writable) → free_slot g.parts.maps ≡ free
     → Seen {A = GuestState × Turn} (map_turn g cpu (MapFile number file first count writable) number (OfFile file first writable) count free) v d (h, t) w e → TurnCase g cpu v d h t w e
-case_map state g v w d e cpu number file first count writable None h t f starts none run = absurd (has_free_slot state g v d cpu number file first count writable f starts none)
+case_map state g v w d e cpu number file first count writable None h t f starts none run =
+    absurd (has_free_slot state g v d (file_has_bytes g.plan.files file (PAGE * first) (PAGE * count)) (find_slot g.parts.maps (process_of g.plan cpu) number) f starts.accepted none)
 case_map state g v w d e cpu number file first count writable (Some slot) h t f starts free (ea, em, ed) =
     was_mapped number file first count writable slot starts free (ap (λ q. q.0) ea) (ap (λ q. q.1) ea) em ed
+
+-- a mapping of pages of its own
+case_map_own : (state : FlatState) (g : GuestState) (v w : StorageView) (d e : DiskView) (cpu number count : ℕ) (free : Option ℕ) (h : GuestState) (t : Turn)
+    → FitAt state g v d → Starts g cpu (MapAnon number count) → free_slot g.parts.maps ≡ free
+    → Seen {A = GuestState × Turn} (map_turn g cpu (MapAnon number count) number OfItsOwn count free) v d (h, t) w e → TurnCase g cpu v d h t w e
+case_map_own state g v w d e cpu number count None h t f starts none run =
+    absurd (has_free_slot state g v d true (find_slot g.parts.maps (process_of g.plan cpu) number) f starts.accepted none)
+case_map_own state g v w d e cpu number count (Some slot) h t f starts free (ea, em, ed) = was_mapped_own number count slot starts free (ap (λ q. q.0) ea) (ap (λ q. q.1) ea) em ed
 
 -- the end of a mapping
 case_unmap : (g : GuestState) (v w : StorageView) (d e : DiskView) (cpu number : ℕ) (found : Option ℕ) (h : GuestState) (t : Turn)
@@ -145,38 +152,38 @@ case_unmap g v w d e cpu number None h t starts none run =
 case_unmap g v w d e cpu number (Some slot) h t starts found (ea, em, ed) = was_unmapped number slot starts found (ap (λ q. q.0) ea) (ap (λ q. q.1) ea) em ed
 
 case_accepted : (state : FlatState) (g : GuestState) (v w : StorageView) (d e : DiskView) (cpu : ℕ) (op : Op) (h : GuestState) (t : Turn)
-    → FitAt state g v d → Starts g cpu op → IsBuiltOp op → Seen {A = GuestState × Turn} (start_accepted g cpu op) v d (h, t) w e → TurnCase g cpu v d h t w e
-case_accepted state g v w d e cpu (Read file off len) h t f starts built run =
+    → FitAt state g v d → Starts g cpu op → Seen {A = GuestState × Turn} (start_accepted g cpu op) v d (h, t) w e → TurnCase g cpu v d h t w e
+case_accepted state g v w d e cpu (Read file off len) h t f starts run =
     let p : Proceeds g cpu (Read file off len) (File file (off / PAGE)) = record { starts = starts; wants = refl; uses = reads file off len refl refl } in
     case_tagged state g v w d e cpu (Read file off len) (File file (off / PAGE)) h t f p run
-case_accepted state g v w d e cpu (Write file off bytes) h t f starts built run =
+case_accepted state g v w d e cpu (Write file off bytes) h t f starts run =
     let p : Proceeds g cpu (Write file off bytes) (File file (off / PAGE)) = record { starts = starts; wants = refl; uses = overwrites file off bytes refl refl } in
     case_tagged state g v w d e cpu (Write file off bytes) (File file (off / PAGE)) h t f p run
-case_accepted state g v w d e cpu (MapFile number file first count writable) h t f starts built run =
+case_accepted state g v w d e cpu (MapFile number file first count writable) h t f starts run =
     case_map state g v w d e cpu number file first count writable (free_slot g.parts.maps) h t f starts refl run
-case_accepted state g v w d e cpu (Load number off len) h t f starts built run =
+case_accepted state g v w d e cpu (Load number off len) h t f starts run =
     case_load_found state g v w d e cpu number off len (find_slot g.parts.maps (process_of g.plan cpu) number) h t f starts refl run
-case_accepted state g v w d e cpu (Store number off bytes) h t f starts built run =
+case_accepted state g v w d e cpu (Store number off bytes) h t f starts run =
     case_store_found state g v w d e cpu number off bytes (find_slot g.parts.maps (process_of g.plan cpu) number) h t f starts refl run
-case_accepted state g v w d e cpu (Pin number index) h t f starts built run =
+case_accepted state g v w d e cpu (Pin number index) h t f starts run =
     case_placed state g v w d e cpu true number index (find_slot g.parts.maps (process_of g.plan cpu) number) h t f starts refl run
-case_accepted state g v w d e cpu (Unpin number index) h t f starts built run =
+case_accepted state g v w d e cpu (Unpin number index) h t f starts run =
     case_placed state g v w d e cpu false number index (find_slot g.parts.maps (process_of g.plan cpu) number) h t f starts refl run
-case_accepted state g v w d e cpu (Sync file) h t f starts built run =
+case_accepted state g v w d e cpu (Sync file) h t f starts run =
     let below = sync-file g (process_of g.plan cpu) file starts.accepted in
     let its : Syncs g cpu file 0 = record { has = starts.has; looks = inl (starts.start, refl); file_below = below; within = file_pages-some g.plan.files file f.sizes.range.files.each below } in
     was_sync file 0 (case_sync state g v w d e cpu file 0 h t f its run)
-case_accepted state g v w d e cpu (Unmap number) h t f starts built run =
+case_accepted state g v w d e cpu (Unmap number) h t f starts run =
     case_unmap g v w d e cpu number (find_slot g.parts.maps (process_of g.plan cpu) number) h t starts refl run
-case_accepted state g v w d e cpu op h t f starts built run = absurd built
+case_accepted state g v w d e cpu (MapAnon number count) h t f starts run = case_map_own state g v w d e cpu number count (free_slot g.parts.maps) h t f starts refl run
 
 case_refused : (state : FlatState) (g : GuestState) (v w : StorageView) (d e : DiskView) (cpu : ℕ) (op : Op) (refusal : Option FlatRefusal) (h : GuestState) (t : Turn)
-    → FitAt state g v d → Has g cpu op → IsBuiltOp op → (processor_at g cpu).phase ≡ Start → refusal_in g (process_of g.plan cpu) op ≡ refusal
+    → FitAt state g v d → Has g cpu op → (processor_at g cpu).phase ≡ Start → refusal_in g (process_of g.plan cpu) op ≡ refusal
     → Seen {A = GuestState × Turn} (start_refused g cpu op refusal) v d (h, t) w e → TurnCase g cpu v d h t w e
-case_refused state g v w d e cpu op (Some refusal) h t f has built phase refused (ea, em, ed) =
+case_refused state g v w d e cpu op (Some refusal) h t f has phase refused (ea, em, ed) =
     was_refused op refusal has phase refused (ap (λ q. q.0) ea) (ap (λ q. q.1) ea) em ed
-case_refused state g v w d e cpu op None h t f has built phase accepted run =
-    case_accepted state g v w d e cpu op h t f (record { has = has; start = phase; accepted = accepted }) built run
+case_refused state g v w d e cpu op None h t f has phase accepted run =
+    case_accepted state g v w d e cpu op h t f (record { has = has; start = phase; accepted = accepted }) run
 
 -- a sync that is at a page of its file
 case_at_sync : (state : FlatState) (g : GuestState) (v w : StorageView) (d e : DiskView) (cpu : ℕ) (op : Op) (index : ℕ) (h : GuestState) (t : Turn)
@@ -200,24 +207,23 @@ case_writing state g v w d e cpu op index page h t f has phase run =
     was_sync k.file index (case_write_back state g v w d e cpu index page h t f k phase (subst (λ q. Seen {A = GuestState × Turn} (write_back_turn g cpu q index page) v d (h, t) w e) same run))
 
 case_in : (state : FlatState) (g : GuestState) (v w : StorageView) (d e : DiskView) (cpu : ℕ) (op : Op) (phase : Phase) (h : GuestState) (t : Turn)
-    → FitAt state g v d → Has g cpu op → IsBuiltOp op → (processor_at g cpu).phase ≡ phase
+    → FitAt state g v d → Has g cpu op → (processor_at g cpu).phase ≡ phase
     → Seen {A = GuestState × Turn} (turn_in g cpu op phase) v d (h, t) w e → TurnCase g cpu v d h t w e
 unfolding start_turn
-case_in state g v w d e cpu op Start h t f has built phase run =
-    case_refused state g v w d e cpu op (refusal_in g (process_of g.plan cpu) op) h t f has built phase refl run
-case_in state g v w d e cpu op (Fill page) h t f has built phase run = case_fill state g v w d e cpu op page h t f has phase run
-case_in state g v w d e cpu op (AtRoom page) h t f has built phase run = was_room op (case_page_out state g v w d e cpu op page h t f has phase run)
-case_in state g v w d e cpu op (AtSync index) h t f has built phase run = case_at_sync state g v w d e cpu op index h t f has phase run
-case_in state g v w d e cpu op (SyncWrite index page) h t f has built phase run = case_writing state g v w d e cpu op index page h t f has phase run
-case_in state g v w d e cpu op (Teardown slot index) h t f has built phase run = was_torn slot index (case_tear state g v w d e cpu slot index h t f phase run)
+case_in state g v w d e cpu op Start h t f has phase run =
+    case_refused state g v w d e cpu op (refusal_in g (process_of g.plan cpu) op) h t f has phase refl run
+case_in state g v w d e cpu op (Fill page) h t f has phase run = case_fill state g v w d e cpu op page h t f has phase run
+case_in state g v w d e cpu op (AtRoom page) h t f has phase run = was_room op (case_page_out state g v w d e cpu op page h t f has phase run)
+case_in state g v w d e cpu op (AtSync index) h t f has phase run = case_at_sync state g v w d e cpu op index h t f has phase run
+case_in state g v w d e cpu op (SyncWrite index page) h t f has phase run = case_writing state g v w d e cpu op index page h t f has phase run
+case_in state g v w d e cpu op (Teardown slot index) h t f has phase run = case_tear state g v w d e cpu slot index h t f phase run
 
 case_on : (state : FlatState) (g : GuestState) (v w : StorageView) (d e : DiskView) (cpu : ℕ) (op : Option Op) (h : GuestState) (t : Turn)
     → FitAt state g v d → cpu < length g.processors → command_of g.plan cpu (processor_at g cpu).place ≡ op
     → Seen {A = GuestState × Turn} (turn_on g cpu op) v d (h, t) w e → TurnCase g cpu v d h t w e
 case_on state g v w d e cpu None h t f below none (ea, em, ed) = was_idle none (ap (λ q. q.0) ea) (ap (λ q. q.1) ea) em ed
 case_on state g v w d e cpu (Some op) h t f below command run =
-    case_in state g v w d e cpu op (processor_at g cpu).phase h t f (record { below = below; command = command })
-    (command-built g.plan cpu (processor_at g cpu).place op f.sizes.built command) refl run
+    case_in state g v w d e cpu op (processor_at g cpu).phase h t f (record { below = below; command = command }) refl run
 
 -- every run of a turn is one of its cases
 pub turn_case : (state : FlatState) (g : GuestState) (v w : StorageView) (d e : DiskView) (cpu : ℕ) (h : GuestState) (t : Turn)

@@ -9,7 +9,7 @@ use Rattle.cmm_types.specs.declared.page.Tag.TheVariants.{File}
 use Rattle.cmm_types.specs.declared.plan.TheConstants.{MAX_CPUS, MAX_LIVE_MAPPINGS, MAX_MAPPING_SLOTS}
 use Rattle.cmm_types.specs.declared.command.TheConstants.{MAX_MAPPING_PAGES}
 use Rattle.cmm_types.specs.declared.command.Op.{Op}
-use Rattle.cmm_types.specs.declared.command.Op.TheVariants.{Read, Write, MapFile, Load, Store}
+use Rattle.cmm_types.specs.declared.command.Op.TheVariants.{Read, Write, Load, Store}
 use Rattle.cmm_types.specs.declared.command.FlatRefusal.TheVariants.{OutOfRange, TooManyMaps}
 use Rattle.cmm_io.specs.DiskView.{DiskView}
 use Rattle.cmm_flat.specs.State.{FlatState}
@@ -23,7 +23,7 @@ use Rattle.guest_maps.specs.Laws.MapsLaws.{free_slot-some}
 use Rattle.guest_rules.specs.declared.processor.Phase.{Phase}
 use Rattle.guest_rules.specs.declared.processor.Phase.TheVariants.{Start, Fill, Room as AtRoom, Sync as AtSync, SyncWrite, Teardown}
 use Rattle.guest_rules.specs.GuestState.{GuestState, processor_at}
-use Rattle.guest_rules.specs.Turns.{file_has_bytes, mapping_pages, refusal_at, refusal_of_new}
+use Rattle.guest_rules.specs.Turns.{mapping_pages, refusal_at, refusal_of_new}
 use Rattle.guest_rules.specs.Fit.{TeardownsFit, FitAt, sum_below}
 use Rattle.guest_rules.proofs.Cases.TurnCases.{Starts, Wants, Maps, CanBeSet, pin_op, ShowsPage}
 use Rattle.guest_rules.proofs.Cases.MapsFound.{found_slot, tag_at-place}
@@ -114,7 +114,7 @@ fewer within live e = grind (arith, nat_tests)
 -- ---- a free slot
 
 -- a processor in this phase tears down the mapping that was in the slot
-abbrev tears_slot : Phase → ℕ → Bool
+abbrev pub tears_slot : Phase → ℕ → Bool
 tears_slot Start s = false
 tears_slot (Fill page) s = false
 tears_slot (AtRoom page) s = false
@@ -122,11 +122,11 @@ tears_slot (AtSync index) s = false
 tears_slot (SyncWrite index page) s = false
 tears_slot (Teardown slot index) s = slot == s
 
-tears_slot-is : (phase : Phase) (slot index : ℕ) → phase ≡ Teardown slot index → tears_slot phase slot ≡ true
+pub tears_slot-is : (phase : Phase) (slot index : ℕ) → phase ≡ Teardown slot index → tears_slot phase slot ≡ true
 tears_slot-is phase slot index e = ap (λ p. tears_slot p slot) e ∙ eq-eqb slot slot refl
 
 -- of one processor it is one slot at most
-one_slot : (phase : Phase) (a b : ℕ) → one_if (tears_slot phase a) ≢ 0 → one_if (tears_slot phase b) ≢ 0 → a ≡ b
+pub one_slot : (phase : Phase) (a b : ℕ) → one_if (tears_slot phase a) ≢ 0 → one_if (tears_slot phase b) ≢ 0 → a ≡ b
 one_slot Start a b x y = absurd (x refl)
 one_slot (Fill page) a b x y = absurd (x refl)
 one_slot (AtRoom page) a b x y = absurd (x refl)
@@ -180,16 +180,16 @@ torn-few g f =
             at_most-then (one_most (not mapping.live)) (at_most-then (at_most (sym one)) (sum_below-at (λ cpu. one_if (tears cpu s)) k.0 count below))
 
 -- where a new mapping isn't refused, some slot is free
-pub has_free_slot : (state : FlatState) (g : GuestState) (v : StorageView) (d : DiskView) (cpu number file first count : ℕ) (writable : Bool) → FitAt state g v d
-    → Starts g cpu (MapFile number file first count writable) → free_slot g.parts.maps ≡ None → ⊥
-has_free_slot state g v d cpu number file first count writable f starts none =
-    let few = accepted_new (find_slot g.parts.maps (process_of g.plan cpu) number) starts.accepted in
+pub has_free_slot : (state : FlatState) (g : GuestState) (v : StorageView) (d : DiskView) (are_there : Bool) (found : Option ℕ) → FitAt state g v d → refusal_of_new g are_there found ≡ None
+    → free_slot g.parts.maps ≡ None → ⊥
+has_free_slot state g v d are_there found f accepted none =
+    let few = accepted_new found accepted in
     let torn : torn_slots g.parts.maps ≤ MAX_CPUS = at_most-then (torn-few g f.teardowns) (at_most-then (at_most f.sizes.processors) f.sizes.range.cpus.few) in
     let some = free_slot-some g.parts.maps (room (live_slots g.parts.maps) (torn_slots g.parts.maps) (length g.parts.maps.slots) few torn f.slots.slots) in
     let bad : true ≡ false = sym some ∙ ap is_some none in cc
   where
-    accepted_new : (o : Option ℕ) → refusal_of_new g file first count o ≡ None → live_slots g.parts.maps < MAX_LIVE_MAPPINGS
-    accepted_new None e = fewer (file_has_bytes g.plan.files file (PAGE * first) (PAGE * count)) (live_slots g.parts.maps) e
+    accepted_new : (o : Option ℕ) → refusal_of_new g are_there o ≡ None → live_slots g.parts.maps < MAX_LIVE_MAPPINGS
+    accepted_new None e = fewer are_there (live_slots g.parts.maps) e
     accepted_new (Some slot) e = absurd (cc e)
 
     room : (live torn slots : ℕ) → live < MAX_LIVE_MAPPINGS → torn ≤ MAX_CPUS → slots ≡ MAX_MAPPING_SLOTS → live + torn < slots

@@ -11,10 +11,12 @@ use Rattle.cmm_types.specs.declared.command.TheConstants.{MAX_MAPPING_PAGES}
 use Rattle.cmm_types.specs.declared.plan.TheConstants.{MAX_LIVE_MAPPINGS}
 use Rattle.cmm_types.specs.declared.plan.FilePlan.{FilePlan}
 use Rattle.cmm_types.specs.declared.command.Op.{Op}
-use Rattle.cmm_types.specs.declared.command.Op.TheVariants.{Read, Write, MapFile, Unmap, Load, Store, Pin, Unpin, Sync}
+use Rattle.cmm_types.specs.declared.command.Op.TheVariants.{Read, Write, MapFile, MapAnon, Unmap, Load, Store, Pin, Unpin, Sync}
 use Rattle.cmm_types.specs.declared.command.FlatRefusal.{FlatRefusal}
 use Rattle.cmm_types.specs.declared.command.FlatRefusal.TheVariants.{NoMapping, AlreadyMapped, OutOfRange, ReadOnly, Pinned, NotPinned, TooManyMaps}
 use Rattle.cmm_flat.specs.declared.mapping.Mapping.{Mapping}
+use Rattle.cmm_flat.specs.declared.mapping.Shown.{Shown as FlatShown}
+use Rattle.cmm_flat.specs.declared.mapping.Shown.TheVariants.{OfFile as FlatFile, Anonymous}
 use Rattle.cmm_types.specs.Bytes.{bytes_at}
 use Rattle.cmm_flat.specs.Laws.RangeLaws.{bytes_at-bytes_at}
 use Rattle.cmm_flat.specs.Mapping.{shows_writable as flat_writable}
@@ -28,9 +30,8 @@ use Rattle.guest_maps.specs.MapsView.{MapsView, slot_at, find_slot, live_slots, 
 use Rattle.guest_maps.specs.Laws.TornLaws.{pinned_at-none, any_pinned-none}
 use Rattle.guest_rules.specs.declared.parts.Parts.{Parts}
 use Rattle.guest_rules.specs.GuestState.{GuestState}
-use Rattle.guest_rules.specs.Built.{IsBuiltOp}
 use Rattle.guest_rules.specs.Turns.{file_pages, file_has_bytes, refusal_at, refusal_of_new, refusal_of_pin, refusal_of_pin_at, refusal_of_unmap, refusal_in}
-use Rattle.guest_rules.specs.Fit.{SlotsFit, pins_of, flat_slot, flat_mapping, flat_found}
+use Rattle.guest_rules.specs.Fit.{SlotsFit, pins_of, without_bytes, shape_of, flat_slot, flat_mapping, flat_found}
 use Rattle.guest_rules.proofs.Cases.MapsFound.{found_slot}
 use Rattle.guest_rules.proofs.Kept.PinLaws.{length-pins_of, pins_of-at}
 use Rattle.guest_rules.proofs.Kept.SlotsKept.{slot-below}
@@ -120,11 +121,46 @@ new_tests true false = refl
 new_tests false true = refl
 new_tests false false = refl
 
-map_same : (g : GuestState) (process number file first count : ℕ) (o : Option ℕ) → find_slot g.parts.maps process number ≡ o
-    → map_refusal (is_some (flat_found g.parts.maps o)) (file_has_bytes g.plan.files file (PAGE * first) (PAGE * count)) (nat_le MAX_LIVE_MAPPINGS (live_slots g.parts.maps))
-    ≡ refusal_of_new g file first count o
-map_same g process number file first count None e = new_tests (file_has_bytes g.plan.files file (PAGE * first) (PAGE * count)) (nat_le MAX_LIVE_MAPPINGS (live_slots g.parts.maps))
-map_same g process number file first count (Some slot) e = let found = found_slot g.parts.maps process number slot e in rw found.at refl
+map_same : (g : GuestState) (process number : ℕ) (are_there : Bool) (o : Option ℕ) → find_slot g.parts.maps process number ≡ o
+    → map_refusal (is_some (flat_found g.parts.maps o)) are_there (nat_le MAX_LIVE_MAPPINGS (live_slots g.parts.maps)) ≡ refusal_of_new g are_there o
+map_same g process number are_there None e = new_tests are_there (nat_le MAX_LIVE_MAPPINGS (live_slots g.parts.maps))
+map_same g process number are_there (Some slot) e = let found = found_slot g.parts.maps process number slot e in rw found.at refl
+
+-- new mappings of pages of their own
+abbrev anon_refusal : (live full : Bool) → Option FlatRefusal
+anon_refusal live full = first_refusal ((live, AlreadyMapped) ∷ (full, TooManyMaps) ∷ [])
+
+anon_same : (g : GuestState) (process number : ℕ) (o : Option ℕ) → find_slot g.parts.maps process number ≡ o
+    → anon_refusal (is_some (flat_found g.parts.maps o)) (nat_le MAX_LIVE_MAPPINGS (live_slots g.parts.maps)) ≡ refusal_of_new g true o
+anon_same g process number None e = of (nat_le MAX_LIVE_MAPPINGS (live_slots g.parts.maps))
+  where
+    of : (full : Bool) → anon_refusal false full ≡ (if true then (if full then Some TooManyMaps else None) else Some OutOfRange)
+    of true = refl
+    of false = refl
+anon_same g process number (Some slot) e = let found = found_slot g.parts.maps process number slot e in rw found.at refl
+
+-- ---- a refusal doesn't depend on bytes of a mapping's own
+
+live_shape : (o : Option Mapping) → is_some (shape_of o) ≡ is_some o
+live_shape None = refl
+live_shape (Some mapping) = refl
+
+live_same : (flat : FlatState) (parts : Parts) (process number : ℕ) → SlotsFit flat parts
+    → is_some (mapping_at flat process number) ≡ is_some (flat_found parts.maps (find_slot parts.maps process number))
+live_same flat parts process number fits = sym (live_shape (mapping_at flat process number)) ∙ ap (λ (o : Option Mapping). is_some o) (fits.flat process number)
+
+writable_shape : (shown : FlatShown) → flat_writable (without_bytes shown) ≡ flat_writable shown
+writable_shape (FlatFile file first writable) = refl
+writable_shape (Anonymous bytes) = refl
+
+load_shape : (off len : ℕ) (o : Option Mapping) → load_refusal off len (shape_of o) ≡ load_refusal off len o
+load_shape off len None = refl
+load_shape off len (Some mapping) = refl
+
+store_shape : (off len : ℕ) (o : Option Mapping) → store_refusal off len (shape_of o) ≡ store_refusal off len o
+store_shape off len None = refl
+store_shape off len (Some mapping) =
+    ap (λ c. first_refusal ((not (in_mapping off len mapping), OutOfRange) ∷ (not c, ReadOnly) ∷ [])) (writable_shape mapping.shown)
 
 -- pins
 abbrev place_tests : (pins within is_pinned : Bool) → Option FlatRefusal
@@ -158,6 +194,10 @@ tests_same false true flat table same = ap (place_tests false true) (same refl) 
     of false = refl
 tests_same true false flat table same = refl
 tests_same false false flat table same = refl
+
+pin_shape : (pins : Bool) (index : ℕ) (o : Option Mapping) → pin_refusal pins index (shape_of o) ≡ pin_refusal pins index o
+pin_shape pins index None = refl
+pin_shape pins index (Some mapping) = refl
 
 pin_same : (maps : MapsView) (process number index : ℕ) (pins : Bool) (o : Option ℕ) → find_slot maps process number ≡ o
     → pin_refusal pins index (flat_found maps o) ≡ refusal_of_pin_at maps pins index o
@@ -209,6 +249,10 @@ any_same flat parts slot mapping f at = by (any_pinned parts.maps slot) refl
         ∙ pinned_at-none parts.maps slot index whole below (omega (arith, inside, (f.shown slot mapping at).0)) e))
         ∙ sym e
 
+unmap_shape : (o : Option Mapping) → unmap_refusal (shape_of o) ≡ unmap_refusal o
+unmap_shape None = refl
+unmap_shape (Some mapping) = refl
+
 unmap_same : (flat : FlatState) (parts : Parts) (process number : ℕ) (o : Option ℕ) → SlotsFit flat parts → find_slot parts.maps process number ≡ o
     → unmap_refusal (flat_found parts.maps o) ≡ refusal_of_unmap parts.maps o
 unmap_same flat parts process number None f e = refl
@@ -220,34 +264,41 @@ unmap_same flat parts process number (Some slot) f e =
     pinned_test true = refl
     pinned_test false = refl
 
--- a built command is refused by the tables as the flat machine refuses it
-pub refusal-same : (flat : FlatState) (g : GuestState) (process : ℕ) (op : Op) → IsBuiltOp op → SlotsFit flat g.parts → HasLengths flat.files g.plan.files
+-- a command is refused by the tables as the flat machine refuses it
+pub refusal-same : (flat : FlatState) (g : GuestState) (process : ℕ) (op : Op) → SlotsFit flat g.parts → HasLengths flat.files g.plan.files
     → refusal_of flat process op ≡ refusal_in g process op
-refusal-same flat g process (Read file off len) built fits has = ap range_refusal (in_file-has_bytes flat.files g.plan.files file off len has) ∙ range_same (file_has_bytes g.plan.files file off len)
-refusal-same flat g process (Write file off bytes) built fits has =
+refusal-same flat g process (Read file off len) fits has = ap range_refusal (in_file-has_bytes flat.files g.plan.files file off len has) ∙ range_same (file_has_bytes g.plan.files file off len)
+refusal-same flat g process (Write file off bytes) fits has =
     ap range_refusal (in_file-has_bytes flat.files g.plan.files file off (length bytes) has) ∙ range_same (file_has_bytes g.plan.files file off (length bytes))
-refusal-same flat g process (MapFile number file first count writable) built fits has =
-    ap (λ m. map_refusal (is_some m) (in_file flat.files file (PAGE * first) (PAGE * count)) (nat_le MAX_LIVE_MAPPINGS (finite.len flat.mappings))) (fits.flat process number)
+refusal-same flat g process (MapFile number file first count writable) fits has =
+    ap (λ b. map_refusal b (in_file flat.files file (PAGE * first) (PAGE * count)) (nat_le MAX_LIVE_MAPPINGS (finite.len flat.mappings))) (live_same flat g.parts process number fits)
     ∙ ap (λ b. map_refusal (is_some (flat_found g.parts.maps (find_slot g.parts.maps process number))) b (nat_le MAX_LIVE_MAPPINGS (finite.len flat.mappings)))
     (in_file-has_bytes flat.files g.plan.files file (PAGE * first) (PAGE * count) has)
     ∙ ap (λ n. map_refusal (is_some (flat_found g.parts.maps (find_slot g.parts.maps process number))) (file_has_bytes g.plan.files file (PAGE * first) (PAGE * count))
     (nat_le MAX_LIVE_MAPPINGS n)) fits.counted
-    ∙ map_same g process number file first count (find_slot g.parts.maps process number) refl
-refusal-same flat g process (Load number off len) built fits has =
-    ap (load_refusal off len) (fits.flat process number) ∙ load_same g.parts.maps process number off len (find_slot g.parts.maps process number) refl
-refusal-same flat g process (Store number off bytes) built fits has =
-    ap (store_refusal off (length bytes)) (fits.flat process number) ∙ store_same g.parts.maps process number off (length bytes) (find_slot g.parts.maps process number) refl
-refusal-same flat g process (Pin number index) built fits has =
-    pin_refused index (mapping_at flat process number) ∙ ap (pin_refusal true index) (fits.flat process number)
+    ∙ map_same g process number (file_has_bytes g.plan.files file (PAGE * first) (PAGE * count)) (find_slot g.parts.maps process number) refl
+refusal-same flat g process (MapAnon number count) fits has =
+    ap (λ b. anon_refusal b (nat_le MAX_LIVE_MAPPINGS (finite.len flat.mappings))) (live_same flat g.parts process number fits)
+    ∙ ap (λ n. anon_refusal (is_some (flat_found g.parts.maps (find_slot g.parts.maps process number))) (nat_le MAX_LIVE_MAPPINGS n)) fits.counted
+    ∙ anon_same g process number (find_slot g.parts.maps process number) refl
+refusal-same flat g process (Load number off len) fits has =
+    sym (load_shape off len (mapping_at flat process number))
+    ∙ ap (load_refusal off len) (fits.flat process number)
+    ∙ load_same g.parts.maps process number off len (find_slot g.parts.maps process number) refl
+refusal-same flat g process (Store number off bytes) fits has =
+    sym (store_shape off (length bytes) (mapping_at flat process number))
+    ∙ ap (store_refusal off (length bytes)) (fits.flat process number)
+    ∙ store_same g.parts.maps process number off (length bytes) (find_slot g.parts.maps process number) refl
+refusal-same flat g process (Pin number index) fits has =
+    pin_refused index (mapping_at flat process number) ∙ sym (pin_shape true index (mapping_at flat process number)) ∙ ap (pin_refusal true index) (fits.flat process number)
     ∙ pin_same g.parts.maps process number index true (find_slot g.parts.maps process number) refl
-refusal-same flat g process (Unpin number index) built fits has =
-    unpin_refused index (mapping_at flat process number) ∙ ap (pin_refusal false index) (fits.flat process number)
+refusal-same flat g process (Unpin number index) fits has =
+    unpin_refused index (mapping_at flat process number) ∙ sym (pin_shape false index (mapping_at flat process number)) ∙ ap (pin_refusal false index) (fits.flat process number)
     ∙ pin_same g.parts.maps process number index false (find_slot g.parts.maps process number) refl
-refusal-same flat g process (Sync file) built fits has =
+refusal-same flat g process (Sync file) fits has =
     ap (λ n. range_refusal (nat_lt file n)) (length-files flat.files g.plan.files has) ∙ range_same (nat_lt file (length g.plan.files))
-refusal-same flat g process (Unmap number) built fits has =
-    ap unmap_refusal (fits.flat process number) ∙ unmap_same flat g.parts process number (find_slot g.parts.maps process number) fits refl
-refusal-same flat g process op built fits has = absurd built
+refusal-same flat g process (Unmap number) fits has =
+    sym (unmap_shape (mapping_at flat process number)) ∙ ap unmap_refusal (fits.flat process number) ∙ unmap_same flat g.parts process number (find_slot g.parts.maps process number) fits refl
 
 -- bytes of a page are the file's
 pub page-bytes : (all : List ℕ) (off len : ℕ) → off % PAGE + len ≤ PAGE → take len (drop (off % PAGE) (bytes_at all (PAGE * (off / PAGE)) PAGE)) ≡ bytes_at all off len

@@ -3,7 +3,7 @@ use Rattle.std.specs.Prelude.{◌≡◌, ◌⊎◌, ◌<◌, ℕ, Bool, Option, 
 use Rattle.cmm_types.specs.declared.page.TheConstants.{PAGE}
 use Rattle.cmm_types.specs.declared.page.Usage.TheVariants.{S, V}
 use Rattle.cmm_types.specs.declared.page.Tag.{Tag}
-use Rattle.cmm_types.specs.declared.page.Tag.TheVariants.{File}
+use Rattle.cmm_types.specs.declared.page.Tag.TheVariants.{File, Anon}
 use Rattle.cmm_types.specs.declared.command.Op.{Op}
 use Rattle.cmm_types.specs.declared.command.Op.TheVariants.{Read, Write, Sync, MapFile, MapAnon, Unmap, Load, Store, Pin, Unpin}
 use Rattle.cmm_types.specs.declared.command.Reply.TheVariants.{Done, Bytes as BytesReply, Refused, Fail}
@@ -23,11 +23,12 @@ use Rattle.guest_pages.specs.PagesView.{info_at}
 use Rattle.guest_cache.specs.CacheView.{CacheView, page_of, backing_of}
 use Rattle.guest_rules.specs.declared.processor.Phase.TheVariants.{Start, Fill, Room as AtRoom, Sync as AtSync, SyncWrite, Teardown}
 use Rattle.guest_maps.specs.declared.slot.Pte.{Pte}
-use Rattle.guest_maps.specs.declared.slot.Shown.TheVariants.{File as OfFile}
+use Rattle.guest_maps.specs.declared.slot.Slot.{Slot}
+use Rattle.guest_maps.specs.declared.slot.Shown.TheVariants.{File as OfFile, Anon as OfItsOwn}
 use Rattle.guest_maps.specs.MapsView.{find_slot, slot_at, free_slot, entry_at, with_slot_mapped, torn_slot}
 use Rattle.guest_rules.specs.declared.parts.Parts.{Parts}
 use Rattle.guest_rules.specs.Hint.{hint}
-use Rattle.guest_rules.specs.Rows.{handled, freed, filled, dirtied, with_change, mapped, unmapped, pinned}
+use Rattle.guest_rules.specs.Rows.{handled, freed, filled, dirtied, with_change, mapped, unmapped, released, pinned}
 use Rattle.guest_rules.specs.GuestState.{GuestState, processor_at, with_parts, with_phase, entered, answered}
 use Rattle.guest_rules.specs.Turns.{refusal_in, begun, file_pages, mapping_pages, passed, torn_past}
 use Rattle.guest_rules.specs.Fit.{NeedsPage, IsTearing, backing}
@@ -219,6 +220,21 @@ pub record Tears (g : GuestState) (cpu slot index : ℕ) : Type 0 where
   pub phase : (processor_at g cpu).phase ≡ Teardown slot index
   pub tearing : IsTearing g cpu slot index
 
+-- the mapping that is torn down in a slot shows pages of a file
+pub record TearsFile (g : GuestState) (slot : ℕ) : Type 0 where
+  pub mapping : Slot
+  pub at : slot_at g.parts.maps slot ≡ Some mapping
+  pub file : ℕ
+  pub first : ℕ
+  pub writable : Bool
+  pub shown : mapping.shown ≡ OfFile file first writable
+
+-- or pages of its own
+pub record TearsOwn (g : GuestState) (slot : ℕ) : Type 0 where
+  pub mapping : Slot
+  pub at : slot_at g.parts.maps slot ≡ Some mapping
+  pub shown : mapping.shown ≡ OfItsOwn
+
 -- what a turn did that takes page `index` off the mapping that was in a slot
 pub data TearCase (g : GuestState) (cpu slot index : ℕ) (v : StorageView) (d : DiskView) (h : GuestState) (t : Turn) (w : StorageView) (e : DiskView) : Type 0 where
   -- the place has no entry
@@ -234,6 +250,20 @@ pub data TearCase (g : GuestState) (cpu slot index : ℕ) (v : StorageView) (d :
       → GivenBack pte.page v d w e → MayBecome (v.values pte.page) found → IsRehinted (unmapped g.parts slot index pte) pte.page found after (w.values pte.page)
       → TearsPast g cpu slot index after h t → TearCase g cpu slot index v d h t w e
 
+-- what a turn did that takes page `index` off a mapping of pages of its own, which is torn down in a slot
+pub data TearOwnCase (g : GuestState) (cpu slot index : ℕ) (v : StorageView) (d : DiskView) (h : GuestState) (t : Turn) (w : StorageView) (e : DiskView) : Type 0 where
+  -- no page has the tag
+  had_no_page_of_its : Tears g cpu slot index → page_of g.parts.cache (Anon slot index) ≡ None → TearsPast g cpu slot index (released g.parts slot index) h t → w ≡ v → e ≡ d
+      → TearOwnCase g cpu slot index v d h t w e
+  -- the page is locked
+  tear_waited : (page owner : ℕ) → Tears g cpu slot index → page_of g.parts.cache (Anon slot index) ≡ Some page → (info_at g.parts.pages page).owner ≡ Some owner
+      → h ≡ g → t ≡ Waits page owner → w ≡ v → e ≡ d → TearOwnCase g cpu slot index v d h t w e
+  -- it was busy
+  tear_own_missed : (why : Why) → Tears g cpu slot index → h ≡ g → t ≡ Again why → AllMay v d w e → Misses v w → e ≡ d → TearOwnCase g cpu slot index v d h t w e
+  -- it was freed, with its swap slot
+  was_torn_off : (page : ℕ) (found : PageValue) → Tears g cpu slot index → HasPage g (Anon slot index) page → GivenBack page v d w e → MayBecome (v.values page) found
+      → IsMadeUnused found (w.values page) → TearsPast g cpu slot index (released (freed g.parts page) slot index) h t → TearOwnCase g cpu slot index v d h t w e
+
 pub data TurnCase (g : GuestState) (cpu : ℕ) (v : StorageView) (d : DiskView) (h : GuestState) (t : Turn) (w : StorageView) (e : DiskView) : Type 0 where
   -- no command is left
   was_idle : command_of g.plan cpu (processor_at g cpu).place ≡ None → h ≡ g → t ≡ Idle → w ≡ v → e ≡ d → TurnCase g cpu v d h t w e
@@ -244,6 +274,10 @@ pub data TurnCase (g : GuestState) (cpu : ℕ) (v : StorageView) (d : DiskView) 
   was_mapped : (number file first count : ℕ) (writable : Bool) (slot : ℕ) → Starts g cpu (MapFile number file first count writable) → free_slot g.parts.maps ≡ Some slot
       → h ≡ entered (with_parts g (record g.parts { maps = with_slot_mapped g.parts.maps slot (process_of g.plan cpu) number (OfFile file first writable) count })) cpu
       (MapFile number file first count writable) Done
+      → t ≡ Finished → w ≡ v → e ≡ d → TurnCase g cpu v d h t w e
+  -- pages of its own were mapped
+  was_mapped_own : (number count slot : ℕ) → Starts g cpu (MapAnon number count) → free_slot g.parts.maps ≡ Some slot
+      → h ≡ entered (with_parts g (record g.parts { maps = with_slot_mapped g.parts.maps slot (process_of g.plan cpu) number OfItsOwn count })) cpu (MapAnon number count) Done
       → t ≡ Finished → w ≡ v → e ≡ d → TurnCase g cpu v d h t w e
   -- the page is locked
   waited : (op : Op) (page owner : ℕ) → Starts g cpu op → HasItsTag g cpu op page → (info_at g.parts.pages page).owner ≡ Some owner
@@ -315,5 +349,7 @@ pub data TurnCase (g : GuestState) (cpu : ℕ) (v : StorageView) (d : DiskView) 
   was_unmapped : (number slot : ℕ) → Starts g cpu (Unmap number) → find_slot g.parts.maps (process_of g.plan cpu) number ≡ Some slot
       → h ≡ answered (with_parts g (record g.parts { maps = torn_slot g.parts.maps slot })) cpu (Unmap number) Done (Teardown slot 0) → t ≡ Moved → w ≡ v → e ≡ d
       → TurnCase g cpu v d h t w e
-  -- a page was taken off the mapping that was in a slot
-  was_torn : (slot index : ℕ) → TearCase g cpu slot index v d h t w e → TurnCase g cpu v d h t w e
+  -- a page was taken off a mapping of a file
+  was_torn : (slot index : ℕ) → TearsFile g slot → TearCase g cpu slot index v d h t w e → TurnCase g cpu v d h t w e
+  -- a page was taken off a mapping of pages of its own
+  was_torn_own : (slot index : ℕ) → TearsOwn g slot → TearOwnCase g cpu slot index v d h t w e → TurnCase g cpu v d h t w e

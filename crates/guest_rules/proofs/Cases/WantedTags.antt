@@ -1,11 +1,12 @@
--- The tag that an accepted command needs a page of: a file's page.
-use Rattle.std.proofs.Common.{◌≡◌, ◌<◌, ◌≤◌, ◌+◌, ◌*◌, ◌/◌, nat_lt, nat_le, if◌then◌else◌, cond, Bool, true, false, ℕ, zero, suc, List, [], ◌∷◌, map, length, get_or, slice_index_or, Option, Some, None, refl, ap, sym, ◌∙◌, arith}
-use Rattle.std.proofs.lemmas.Bool.{and_parts, ltb-true, leb-true}
-use Rattle.std.proofs.lemmas.List.{length-map}
+-- The tag that an accepted command needs a page of.
+use Rattle.std.proofs.Common.{◌≡◌, ◌<◌, ◌≤◌, ◌+◌, ◌*◌, ◌/◌, nat_lt, nat_le, if◌then◌else◌, cond, Bool, true, false, ℕ, zero, suc, List, [], ◌∷◌, map, length, get_or, slice_index_or, Option, Some, None, refl, ap, sym, subst, ◌∙◌, inl, inr, arith}
+use Rattle.std.proofs.lemmas.Bool.{and_parts, cases_lt, ltb-true, leb-true}
+use Rattle.std.proofs.lemmas.List.{length-map, get_or_past}
 use Rattle.cmm_types.specs.declared.page.TheConstants.{PAGE}
 use Rattle.cmm_types.specs.declared.page.Tag.{Tag}
 use Rattle.cmm_types.specs.declared.page.Tag.TheVariants.{File}
 use Rattle.cmm_types.specs.declared.plan.FilePlan.{FilePlan}
+use Rattle.cmm_types.specs.declared.plan.TheConstants.{MAX_MAPPING_SLOTS}
 use Rattle.cmm_types.specs.declared.command.TheConstants.{MAX_MAPPING_PAGES}
 use Rattle.cmm_types.specs.declared.command.Op.{Op}
 use Rattle.cmm_types.specs.declared.command.Op.TheVariants.{Read, Write, Load, Store, Pin, Unpin, Sync}
@@ -18,30 +19,26 @@ use Rattle.cmm_storage.specs.StorageView.{StorageView}
 use Rattle.guest_cache.specs.CacheView.{IsTag}
 use Rattle.guest_maps.specs.declared.slot.Slot.{Slot}
 use Rattle.guest_maps.specs.declared.slot.Shown.{Shown}
-use Rattle.guest_maps.specs.declared.slot.Shown.TheVariants.{File as OfFile}
-use Rattle.guest_maps.specs.MapsView.{slot_at, find_slot, tag_of, tag_at, tag_in as slot_tag}
+use Rattle.guest_maps.specs.declared.slot.Shown.TheVariants.{File as OfFile, Anon as OfItsOwn}
+use Rattle.guest_maps.specs.MapsView.{MapsView, slot_at, find_slot, tag_of, tag_at, tag_in as slot_tag}
 use Rattle.guest_rules.specs.declared.parts.Parts.{Parts}
 use Rattle.guest_rules.specs.GuestState.{GuestState, processor_at}
 use Rattle.guest_rules.specs.Turns.{file_pages, file_has_bytes, refusal_in}
-use Rattle.guest_rules.specs.Fit.{SizesFit, SlotsFit}
+use Rattle.guest_rules.specs.Fit.{SizesFit, SlotsFit, HasShownPages, IsFlatTag}
 use Rattle.guest_rules.proofs.Cases.TurnCases.{Has, Starts, Wants, found_tag}
 use Rattle.guest_rules.proofs.Cases.Commands.{command-in_range}
+use Rattle.guest_rules.proofs.Cases.MapsFound.{found_slot}
 
 -- ---- what a place of a mapping shows
 
--- the page of the file
+-- the mapping in the slot has the page, and what it shows is there
 pub record ShowsAt (parts : Parts) (slot index : ℕ) (tag : Tag) : Type 0 where
   pub mapping : Slot
   pub there : slot_at parts.maps slot ≡ Some mapping
-  pub file : ℕ
-  pub first : ℕ
-  pub writable : Bool
-  pub shown : mapping.shown ≡ OfFile file first writable
-  pub is : tag ≡ File file (first + index)
+  pub is : tag ≡ tag_of mapping.shown slot index
   pub below : index < mapping.count
   pub few : mapping.count ≤ MAX_MAPPING_PAGES
-  pub file_below : file < length parts.cache.files
-  pub within : first + mapping.count ≤ slice_index_or parts.cache.files file 0
+  pub shows : HasShownPages parts.cache mapping.shown mapping.count
 
 shown_if : (b : Bool) (t tag : Tag) → cond b (Some t) None ≡ Some tag → (b ≡ true) × (t ≡ tag)
 shown_if true t tag e = (refl, cc)
@@ -55,19 +52,7 @@ shows_at state parts slot index tag f e = of (slot_at parts.maps slot) refl e
     of (Some mapping) z e =
         let its = f.shown slot mapping z in
         let k = shown_if (nat_lt index mapping.count) (tag_of mapping.shown slot index) tag e in
-        record {
-          mapping = mapping;
-          there = z;
-          file = its.1.0;
-          first = its.1.1;
-          writable = its.1.2;
-          shown = its.1.3;
-          is = sym k.1 ∙ ap (λ (s : Shown). tag_of s slot index) its.1.3;
-          below = ltb-true index mapping.count k.0;
-          few = its.0;
-          file_below = its.1.4;
-          within = its.1.5;
-        }
+        record { mapping = mapping; there = z; is = sym k.1; below = ltb-true index mapping.count k.0; few = its.0; shows = its.1 }
 
 pub tag_in-Some : (parts : Parts) (o : Option ℕ) (index : ℕ) (tag : Tag) → found_tag parts o index ≡ Some tag → (slot : ℕ) × (o ≡ Some slot) × (tag_at parts.maps slot index ≡ Some tag)
 tag_in-Some parts None index tag e = let bad : None ≡ Some tag = e in absurd cc
@@ -127,24 +112,59 @@ write-piece g v d cpu file off bytes f has = (command-in_range g.plan cpu (proce
 page_within : (off len pages : ℕ) → 1 ≤ len → off + len ≤ PAGE * pages → off / PAGE < pages
 page_within off len pages some within = omega arith
 
--- a file's page
+-- a page of a file, or of a live mapping of its own: the flat machine has it
 pub record IsWanted (parts : Parts) (tag : Tag) : Type 0 where
   pub is_tag : IsTag parts.cache tag
-  pub of_file : (file : ℕ) × (index : ℕ) × (tag ≡ File file index)
-
-wanted-file : (parts : Parts) (tag : Tag) (file index : ℕ) → tag ≡ File file index → file < length parts.cache.files → index < slice_index_or parts.cache.files file 0 → IsWanted parts tag
-wanted-file parts tag file index is below within = record { is_tag = rw is (below, within); of_file = (file, index, is) }
+  pub flat : IsFlatTag parts tag
 
 wanted-bytes : (g : GuestState) (file off len : ℕ) (tag : Tag) → HasBytes g file off len → IsPiece off len → Some (File file (off / PAGE)) ≡ Some tag → IsWanted g.parts tag
 wanted-bytes g file off len tag k piece wants =
     let is : tag ≡ File file (off / PAGE) = cc in
-    wanted-file g.parts tag file (off / PAGE) is k.file_below (page_within off len _ piece.some k.within)
+    let its : IsTag g.parts.cache (File file (off / PAGE)) = (k.file_below, page_within off len _ piece.some k.within) in
+    subst (IsWanted g.parts) (sym is) (record { is_tag = its; flat = its })
 
-pub wanted-shown : (parts : Parts) (slot index : ℕ) (tag : Tag) → ShowsAt parts slot index tag → IsWanted parts tag
-wanted-shown parts slot index tag k = wanted-file parts tag k.file (k.first + index) k.is k.file_below (omega (arith, k.below, k.within))
+shown-tag : (parts : Parts) (slot index count : ℕ) (shown : Shown) → HasShownPages parts.cache shown count → slot < parts.cache.slots → index < count → count ≤ MAX_MAPPING_PAGES
+    → IsTag parts.cache (tag_of shown slot index)
+shown-tag parts slot index count (OfFile file first writable) shows below within few = (shows.0, omega (arith, shows.1, within))
+shown-tag parts slot index count OfItsOwn shows below within few = (below, omega (arith, within, few))
 
-wanted-in : (state : FlatState) (parts : Parts) (o : Option ℕ) (index : ℕ) (tag : Tag) → SlotsFit state parts → found_tag parts o index ≡ Some tag → IsWanted parts tag
-wanted-in state parts o index tag f e = let k = tag_in-Some parts o index tag e in wanted-shown parts k.0 index tag (shows_at state parts k.0 index tag f k.2)
+slot-within : (slot all cache : ℕ) → slot < all → all ≡ MAX_MAPPING_SLOTS → cache ≡ MAX_MAPPING_SLOTS → slot < cache
+slot-within slot all cache below a c = omega (arith, below, a, c)
+
+slot_below : (maps : MapsView) (slot : ℕ) (mapping : Slot) → slot_at maps slot ≡ Some mapping → slot < length maps.slots
+slot_below maps slot mapping at = elim (cases_lt slot (length maps.slots)) [
+  | inl below ↦ below
+  | inr past ↦ let bad : None ≡ Some mapping = sym (get_or_past maps.slots slot None past) ∙ at in absurd cc
+]
+
+-- what a place shows has a place in the index
+pub shown-is_tag : (state : FlatState) (parts : Parts) (slot index : ℕ) (tag : Tag) → SlotsFit state parts → parts.cache.slots ≡ MAX_MAPPING_SLOTS
+    → ShowsAt parts slot index tag → IsTag parts.cache tag
+shown-is_tag state parts slot index tag f sized k =
+    rw k.is (shown-tag parts slot index k.mapping.count k.mapping.shown k.shows
+    (slot-within slot (length parts.maps.slots) parts.cache.slots (slot_below parts.maps slot k.mapping k.there) f.slots sized) k.below k.few)
+
+-- and the flat machine has it, where the mapping is live
+shown-flat : (parts : Parts) (slot index : ℕ) (mapping : Slot) (shown : Shown) → slot_at parts.maps slot ≡ Some mapping → mapping.live ≡ true → mapping.shown ≡ shown → index < mapping.count
+    → IsTag parts.cache (tag_of shown slot index) → IsFlatTag parts (tag_of shown slot index)
+shown-flat parts slot index mapping (OfFile file first writable) at live shown below is = is
+shown-flat parts slot index mapping OfItsOwn at live shown below is = rw at (live, shown, below)
+
+pub wanted-shown : (state : FlatState) (parts : Parts) (slot index : ℕ) (tag : Tag) → SlotsFit state parts → parts.cache.slots ≡ MAX_MAPPING_SLOTS → (k : ShowsAt parts slot index tag)
+    → k.mapping.live ≡ true → IsWanted parts tag
+wanted-shown state parts slot index tag f sized k live =
+    let is = shown-is_tag state parts slot index tag f sized k in
+    record { is_tag = is; flat = rw k.is (shown-flat parts slot index k.mapping k.mapping.shown k.there live refl k.below (rw k.is at is)) }
+
+wanted-in : (state : FlatState) (parts : Parts) (process number index : ℕ) (tag : Tag) → SlotsFit state parts → parts.cache.slots ≡ MAX_MAPPING_SLOTS
+    → found_tag parts (find_slot parts.maps process number) index ≡ Some tag → IsWanted parts tag
+wanted-in state parts process number index tag f sized e =
+    let k = tag_in-Some parts (find_slot parts.maps process number) index tag e in
+    let at = shows_at state parts k.0 index tag f k.2 in
+    let found = found_slot parts.maps process number k.0 k.1 in
+    let both : Some found.mapping ≡ Some at.mapping = sym found.at ∙ at.there in
+    let same : found.mapping ≡ at.mapping = cc in
+    wanted-shown state parts k.0 index tag f sized at (ap (λ (m : Slot). m.live) (sym same) ∙ found.live)
 
 pub is_wanted : (state : FlatState) (g : GuestState) (v : StorageView) (d : DiskView) (cpu : ℕ) (op : Op) (tag : Tag) → SizesFit g v d → SlotsFit state g.parts → Starts g cpu op
     → Wants g cpu op tag → IsWanted g.parts tag
@@ -152,8 +172,8 @@ is_wanted state g v d cpu (Read file off len) tag sizes slots starts wants =
     wanted-bytes g file off len tag (read-bytes g v d (process_of g.plan cpu) file off len sizes starts.accepted) (read-piece g v d cpu file off len sizes starts.has) wants
 is_wanted state g v d cpu (Write file off bytes) tag sizes slots starts wants =
     wanted-bytes g file off (length bytes) tag (write-bytes g v d (process_of g.plan cpu) file off bytes sizes starts.accepted) (write-piece g v d cpu file off bytes sizes starts.has) wants
-is_wanted state g v d cpu (Load number off len) tag sizes slots starts wants = wanted-in state g.parts (find_slot g.parts.maps (process_of g.plan cpu) number) (off / PAGE) tag slots wants
-is_wanted state g v d cpu (Store number off bytes) tag sizes slots starts wants = wanted-in state g.parts (find_slot g.parts.maps (process_of g.plan cpu) number) (off / PAGE) tag slots wants
-is_wanted state g v d cpu (Pin number index) tag sizes slots starts wants = wanted-in state g.parts (find_slot g.parts.maps (process_of g.plan cpu) number) index tag slots wants
-is_wanted state g v d cpu (Unpin number index) tag sizes slots starts wants = wanted-in state g.parts (find_slot g.parts.maps (process_of g.plan cpu) number) index tag slots wants
+is_wanted state g v d cpu (Load number off len) tag sizes slots starts wants = wanted-in state g.parts (process_of g.plan cpu) number (off / PAGE) tag slots sizes.slots wants
+is_wanted state g v d cpu (Store number off bytes) tag sizes slots starts wants = wanted-in state g.parts (process_of g.plan cpu) number (off / PAGE) tag slots sizes.slots wants
+is_wanted state g v d cpu (Pin number index) tag sizes slots starts wants = wanted-in state g.parts (process_of g.plan cpu) number index tag slots sizes.slots wants
+is_wanted state g v d cpu (Unpin number index) tag sizes slots starts wants = wanted-in state g.parts (process_of g.plan cpu) number index tag slots sizes.slots wants
 is_wanted state g v d cpu op tag sizes slots starts wants = let bad : None ≡ Some tag = wants in absurd cc

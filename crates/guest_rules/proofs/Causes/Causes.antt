@@ -3,7 +3,7 @@ use Rattle.std.specs.Prelude.{◌≡◌, ◌⊎◌, ℕ, Bool, true, false, Some
 use Rattle.std.proofs.Common.{sym, ap, inl, inr, ◌∙◌}
 use Rattle.cmm_types.specs.declared.page.Tag.{Tag}
 use Rattle.cmm_types.specs.declared.command.Op.{Op}
-use Rattle.cmm_types.specs.declared.command.Op.TheVariants.{Read, Write, MapFile, Load, Store}
+use Rattle.cmm_types.specs.declared.command.Op.TheVariants.{Read, Write, MapFile, MapAnon, Load, Store}
 use Rattle.cmm_types.specs.declared.command.Reply.TheVariants.{Done, Refused, Fail}
 use Rattle.cmm_types.specs.declared.command.Cause.TheVariants.{Paging}
 use Rattle.cmm_types.specs.declared.turn.Turn.{Turn}
@@ -19,7 +19,7 @@ use Rattle.guest_rules.specs.Rows.{with_change, dirtied}
 use Rattle.guest_rules.specs.Stuck.{NeedsFreePage}
 use Rattle.guest_rules.specs.Fit.{Fit}
 use Rattle.guest_rules.specs.Cause.{AnswerCause, IsAccepted}
-use Rattle.guest_rules.proofs.Cases.TurnCases.{TurnCase, was_idle, was_refused, was_mapped, waited, missed, missed_rehinted, was_begun, was_gone, was_read, was_written, touch_failed, was_resolved, was_loaded, was_stored, entry_failed, fill_failed, was_filled, was_pinned, pin_op, was_sync, was_room, was_unmapped, was_torn, Has, Starts, HasPage, HasItsTag, wanted_tag}
+use Rattle.guest_rules.proofs.Cases.TurnCases.{TurnCase, was_idle, was_refused, was_mapped, was_mapped_own, waited, missed, missed_rehinted, was_begun, was_gone, was_read, was_written, touch_failed, was_resolved, was_loaded, was_stored, entry_failed, fill_failed, was_filled, was_pinned, pin_op, was_sync, was_room, was_unmapped, was_torn, was_torn_own, Has, Starts, HasPage, HasItsTag, wanted_tag}
 use Rattle.guest_rules.proofs.Rows.Values.{may_used}
 use Rattle.guest_rules.proofs.Ready.Ready.{can_be_used}
 use Rattle.guest_rules.proofs.Bound.Ranks.{wants_not_sync, wants_not_unmap}
@@ -32,7 +32,7 @@ use Rattle.guest_rules.proofs.Causes.RoomMoves.{no_room, starts_again}
 use Rattle.guest_rules.proofs.Causes.RoomCauses.{room_causes}
 use Rattle.guest_rules.proofs.Causes.SyncCauses.{sync_causes}
 use Rattle.guest_rules.proofs.Causes.TearMoves.{moves_on, stays_at_start}
-use Rattle.guest_rules.proofs.Causes.TearCauses.{unmap_causes, tear_causes}
+use Rattle.guest_rules.proofs.Causes.TearCauses.{unmap_causes, tear_causes, tear_own_causes}
 use Rattle.guest_rules.proofs.Causes.ShownEntries.{shows_loaded, shows_stored}
 
 -- a page that is told again was changed, or nothing changed
@@ -69,6 +69,8 @@ answer_causes g v w d e cpu h t f (was_refused op refusal has start refused eh e
     rw et (finished g v w d e cpu op g.parts (Refused refusal) h has eh (record { command = has.command; start = start; refused = refused-same g v d cpu op f has ∙ refused }) tt)
 answer_causes g v w d e cpu h t f (was_mapped number file first count writable slot starts free eh et ew ee) =
     rw et (finished g v w d e cpu (MapFile number file first count writable) _ Done h starts.has eh (accepted g v d cpu (MapFile number file first count writable) f starts) tt)
+answer_causes g v w d e cpu h t f (was_mapped_own number count slot starts free eh et ew ee) =
+    rw et (finished g v w d e cpu (MapAnon number count) _ Done h starts.has eh (accepted g v d cpu (MapAnon number count) f starts) tt)
 answer_causes g v w d e cpu h t f (waited op page owner starts its locked eh et ew ee) =
     rw et (
       eh,
@@ -139,4 +141,5 @@ answer_causes g v w d e cpu h t f (was_filled op page tag has phase tagged eh et
 answer_causes g v w d e cpu h t f (was_sync file index k) = sync_causes g v w d e cpu file index h t f k
 answer_causes g v w d e cpu h t f (was_room op k) = room_causes g v w d e cpu op h t f k
 answer_causes g v w d e cpu h t f (was_unmapped number slot starts found eh et ew ee) = unmap_causes g v w d e cpu number slot h t f starts found eh et
-answer_causes g v w d e cpu h t f (was_torn slot index k) = tear_causes g v w d e cpu slot index h t f k
+answer_causes g v w d e cpu h t f (was_torn slot index its k) = tear_causes g v w d e cpu slot index h t f k
+answer_causes g v w d e cpu h t f (was_torn_own slot index its k) = tear_own_causes g v w d e cpu slot index h t f its k

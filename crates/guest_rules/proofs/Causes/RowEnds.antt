@@ -24,7 +24,7 @@ use Rattle.guest_rules.specs.declared.outcome.Placed.{Placed}
 use Rattle.guest_rules.specs.declared.outcome.Placed.TheVariants.{Done as PlaceDone, Gone as PlaceGone, Again as PlaceAgain}
 use Rattle.guest_rules.specs.declared.outcome.Synced.{Synced}
 use Rattle.guest_rules.specs.declared.outcome.Synced.TheVariants.{Clean, Locked, Gone as SyncGone, Waits as IsLocked, Again as SyncAgain}
-use Rattle.guest_rules.specs.Rows.{handled, handler, tell, with_change, rehint, make_stable, missed_by, touch_missed, read_page, read_stable, read_touched, write_page, write_stable, write_touched, load_page, load_touched, store_through, store_touched, resolve, resolve_stable, pin_page, pin_stable, clear_entry, clear_stable, fill, fill_with, fill_read, fill_from, fill_touched, backing_at, dirtied, mapped, unmapped, pinned, filled}
+use Rattle.guest_rules.specs.Rows.{handled, handler, tell, with_change, rehint, make_stable, missed_by, touch_missed, read_page, read_stable, read_touched, write_page, write_stable, write_touched, load_page, load_touched, store_through, store_touched, resolve, resolve_stable, pin_page, pin_stable, clear_entry, clear_stable, tear_page, fill, fill_with, fill_read, fill_from, fill_touched, backing_at, dirtied, mapped, unmapped, pinned, filled}
 use Rattle.guest_rules.specs.Syncs.{sync_page, sync_owned, sync_taken, sync_known, sync_stable, unlocked, cleaned, write_back, back_touched, back_fetched, back_written, stay_dirty}
 use Rattle.guest_rules.proofs.Causes.Ends.{Ends, ends_bind, after_take, after_touch}
 
@@ -190,6 +190,11 @@ clear_ends parts slot index pte (Err busy) = refl
 clear_ends parts slot index pte (Ok u) =
     ends_bind (make_stable parts pte.page) (λ went. clear_stable slot index pte went.0 went.1) None PlacedNames
     (stable_ends parts pte.page None (λ l went. Ends (clear_stable slot index pte went.0 went.1) l PlacedNames) (λ after r. clear_gone slot index pte after r))
+
+pub tear_ends : (parts : Parts) (slot index page : ℕ) → Ends (tear_page parts slot index page) None PlacedNames
+unfolding tear_page
+tear_ends parts slot index page (Err busy) = refl
+tear_ends parts slot index page (Ok u) = λ was_done. tt
 
 -- ---- the filling of a page
 

@@ -20,7 +20,6 @@ use Rattle.guest_rules.specs.Cause.{ShowsDone, ShowsBytes, IsShown}
 use Rattle.guest_rules.proofs.Cases.TurnCases.{Starts}
 use Rattle.guest_rules.proofs.Cases.Commands.{command-in_range}
 use Rattle.guest_rules.proofs.Cases.Reached.{Reaches, load_reaches, store_reaches, entry_page}
-use Rattle.guest_rules.proofs.Cases.WantedTags.{is_wanted}
 use Rattle.guest_rules.proofs.Kept.WholePages.{written_there}
 
 -- the entry that a load or store went through still shows its page
@@ -50,7 +49,6 @@ shows_stored state g v w d e cpu number off bytes slot page found all f starts a
     let pte : Pte = record { page = page; writable = true } in
     let k = store_reaches state g v d cpu number off bytes slot f starts at_slot in
     let has = entry_page state g v d cpu (Store number off bytes) true slot off pte f k at in
-    let wanted = is_wanted state g v d cpu (Store number off bytes) k.tag f.sizes f.slots starts k.wants in
     let piece = (command-in_range g.plan cpu (processor_at g cpu).place (Store number off bytes) f.sizes.range starts.has.command).1 in (
       page,
       shown_entry state g v d cpu number (Store number off bytes) true slot off pte Done f k at_slot at (λ e. refl),
@@ -58,6 +56,6 @@ shows_stored state g v w d e cpu number off bytes slot page found all f starts a
         changed = ap (λ q. q.changed) value;
         all = with_bytes all (off % PAGE) bytes;
         are = ap (λ q. q.contents) value;
-        there = written_there state g v d page (off % PAGE) k.tag found all bytes f has wanted may are piece.within_page;
+        there = written_there state g v d page (off % PAGE) k.tag found all bytes f has may are piece.within_page;
       },
     )

@@ -1,5 +1,5 @@
 -- What stands after the reply to a write.
-use Rattle.std.specs.Prelude.{◌≡◌, ℕ, ◌/◌, ◌%◌, List, true, false, refl}
+use Rattle.std.specs.Prelude.{◌≡◌, ℕ, ◌/◌, ◌%◌, List, true, false}
 use Rattle.std.proofs.Common.{ap, ◌∙◌}
 use Rattle.cmm_types.specs.declared.page.TheConstants.{PAGE}
 use Rattle.cmm_types.specs.declared.page.Usage.TheVariants.{S}
@@ -19,7 +19,7 @@ use Rattle.guest_rules.specs.Fit.{FitAt}
 use Rattle.guest_rules.specs.Cause.{ShowsDone}
 use Rattle.guest_rules.proofs.Cases.TurnCases.{Starts, HasPage}
 use Rattle.guest_rules.proofs.Kept.RowChanges.{change-changed}
-use Rattle.guest_rules.proofs.Cases.WantedTags.{is_wanted, write-piece}
+use Rattle.guest_rules.proofs.Cases.WantedTags.{write-piece}
 use Rattle.guest_rules.proofs.Ready.Ready.{has_shows}
 use Rattle.guest_rules.proofs.Kept.WholePages.{written_there}
 
@@ -31,7 +31,6 @@ unfolding entered
 shows_written state g v w d e cpu file off bytes page found all f starts has may are value =
     let tag : Tag = File file (off / PAGE) in
     let here = (change-changed g.parts page true has.below).here in
-    let wanted = is_wanted state g v d cpu (Write file off bytes) tag f.sizes f.slots starts refl in
     let piece = write-piece g v d cpu file off bytes f.sizes starts.has in (
       page,
       record {
@@ -42,6 +41,6 @@ shows_written state g v w d e cpu file off bytes page found all f starts has may
         unchanged = ap (λ q. q.changed) value;
         all = with_bytes all (off % PAGE) bytes;
         are = ap (λ q. q.contents) value;
-        there = written_there state g v d page (off % PAGE) tag found all bytes f (has_shows state g v d page tag f has) wanted may are piece.within_page;
+        there = written_there state g v d page (off % PAGE) tag found all bytes f (has_shows state g v d page tag f has) may are piece.within_page;
       },
     )

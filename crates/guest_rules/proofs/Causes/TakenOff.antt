@@ -1,22 +1,26 @@
 -- What the tables are once a page was taken off a mapping that is torn down: its place has no entry, and the slots are as they were.
 use Rattle.std.proofs.Common.{◌≡◌, ℕ, Some, None, cond, refl, ap, ◌∙◌}
 use Rattle.std.proofs.lemmas.Bool.{eq-eqb}
+use Rattle.cmm_types.specs.declared.page.Tag.TheVariants.{Anon}
 use Rattle.cmm_types.specs.declared.command.Op.TheVariants.{Unmap}
 use Rattle.cmm_flat.specs.Legal.{flat_of}
 use Rattle.cmm_io.specs.DiskView.{DiskView}
-use Rattle.essa_state.specs.PageValue.{PageValue}
+use Rattle.essa_state.specs.PageValue.{PageValue, IsMadeUnused, MayBecome}
 use Rattle.cmm_storage.specs.StorageView.{StorageView}
+use Rattle.guest_cache.specs.CacheView.{page_of}
 use Rattle.guest_maps.specs.declared.slot.Pte.{Pte}
 use Rattle.guest_maps.specs.MapsView.{MapsView, entry_at, unless_shows, with_entry}
 use Rattle.guest_maps.specs.Laws.MapsLaws.{slots-with_entry, slots-without_entries_of, entry_at-without_entries_of}
 use Rattle.guest_rules.specs.declared.parts.Parts.{Parts}
-use Rattle.guest_rules.specs.GuestState.{GuestState}
-use Rattle.guest_rules.specs.Rows.{handled, unmapped}
+use Rattle.guest_rules.specs.GuestState.{GuestState, with_parts}
+use Rattle.guest_rules.specs.Rows.{handled, unmapped, freed, released}
 use Rattle.guest_rules.specs.Fit.{Fit}
-use Rattle.guest_rules.proofs.Cases.TurnCases.{Has, Tears, IsRehinted}
+use Rattle.guest_rules.proofs.Cases.TurnCases.{Has, HasPage, GivenBack, Tears, TearsOwn, IsRehinted}
 use Rattle.guest_rules.proofs.Kept.EntryLaws.{entry_at-set}
 use Rattle.guest_rules.proofs.Kept.EntriesKept.{HasEntry, has_entry-within}
+use Rattle.guest_rules.proofs.Fit.StepFreed.{Fit-torn_off}
 use Rattle.guest_rules.proofs.Fit.StepTorn.{torn-has_entry}
+use Rattle.guest_rules.proofs.Fit.FitTorn.{tearing-within, torn_mapping, no_entry, released-maps, still_own, freed_none}
 use Rattle.guest_rules.proofs.Kept.RowChanges.{handled-maps, freed-maps, maps-changed, maps-unmapped}
 
 pub record IsTakenOff (g : GuestState) (slot index : ℕ) (after : Parts) : Type 0 where
@@ -48,6 +52,36 @@ taken-cleared g v w d cpu slot index pte found after f k entry told = record {
 
     maps : after.maps ≡ with_entry g.parts.maps slot index None
     maps = ap (λ (q : Parts). q.maps) told.tables ∙ maps-changed (unmapped g.parts slot index pte) pte.page found.changed ∙ maps-unmapped g.parts slot index pte
+
+-- a mapping of pages of its own: no page has the tag, and its swap slot is free
+pub slots-released : (g : GuestState) (slot index : ℕ) → (released g.parts slot index).maps.slots ≡ g.parts.maps.slots
+slots-released g slot index = ap (λ (m : MapsView). m.slots) (released-maps g.parts slot index)
+
+pub taken-released : (g : GuestState) (v : StorageView) (d : DiskView) (cpu slot index : ℕ) → Fit g v d → Tears g cpu slot index → TearsOwn g slot → page_of g.parts.cache (Anon slot index) ≡ None
+    → IsTakenOff g slot index (released g.parts slot index)
+taken-released g v d cpu slot index f k its none = record {
+  cleared = ap (λ m. entry_at m slot index) (released-maps g.parts slot index)
+      ∙ no_entry (flat_of g.plan g.journal) g v d slot index its f (tearing-within g cpu slot index its.mapping k.tearing its.at) none;
+  slots = slots-released g slot index;
+}
+
+-- or the page with it was freed, too
+pub slots-torn_off : (g : GuestState) (slot index page : ℕ) → (released (freed g.parts page) slot index).maps.slots ≡ g.parts.maps.slots
+slots-torn_off g slot index page =
+    ap (λ (m : MapsView). m.slots) (released-maps (freed g.parts page) slot index ∙ freed-maps g.parts page) ∙ slots-without_entries_of g.parts.maps page
+
+pub taken-torn_off : (g : GuestState) (v w : StorageView) (d e : DiskView) (cpu slot index page : ℕ) (found : PageValue) → Fit g v d → Tears g cpu slot index → TearsOwn g slot
+    → HasPage g (Anon slot index) page → GivenBack page v d w e → MayBecome (v.values page) found → IsMadeUnused found (w.values page)
+    → IsTakenOff g slot index (released (freed g.parts page) slot index)
+taken-torn_off g v w d e cpu slot index page found f k its has back may unused =
+    let flat = flat_of g.plan g.journal in
+    let now = Fit-torn_off flat g v d w e slot index page its.mapping found f its.at (torn_mapping g cpu slot index its k.tearing) has back may unused in
+    record {
+      cleared = ap (λ m. entry_at m slot index) (released-maps (freed g.parts page) slot index)
+          ∙ no_entry flat (with_parts g (freed g.parts page)) w e slot index (still_own g slot page its) now (tearing-within g cpu slot index its.mapping k.tearing its.at)
+          (freed_none flat g v d slot index page f has);
+      slots = slots-torn_off g slot index page;
+    }
 
 -- the processor's command
 pub tearing_has : (g : GuestState) (cpu slot index : ℕ) → (k : Tears g cpu slot index) → Has g cpu (Unmap k.tearing.number)

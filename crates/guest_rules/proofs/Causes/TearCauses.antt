@@ -13,19 +13,20 @@ use Rattle.guest_maps.specs.Laws.TornLaws.{entries-freed_slot, slot_at-freed_slo
 use Rattle.guest_rules.specs.declared.parts.Parts.{Parts}
 use Rattle.guest_rules.specs.declared.processor.Phase.TheVariants.{Start, Teardown}
 use Rattle.guest_rules.specs.GuestState.{GuestState, processor_at, with_parts, with_phase, answered, next_command}
-use Rattle.guest_rules.specs.Rows.{handled}
+use Rattle.guest_rules.specs.Rows.{handled, freed, released}
 use Rattle.guest_rules.specs.Turns.{mapping_pages}
 use Rattle.guest_rules.specs.Fit.{Fit}
 use Rattle.guest_rules.specs.Cause.{AnswerCause, HasUnmapped, HasTorn, HasTornDown, TearLeads}
-use Rattle.guest_rules.proofs.Cases.TurnCases.{TearCase, had_no_entry, tear_missed, tear_gone, was_cleared_at, Has, Starts, Tears}
+use Rattle.guest_rules.proofs.Cases.TurnCases.{TearCase, had_no_entry, tear_missed, tear_gone, was_cleared_at, TearOwnCase, had_no_page_of_its, tear_waited, tear_own_missed, was_torn_off, Has, Starts, Tears, TearsOwn}
 use Rattle.guest_rules.proofs.Cases.TornPast.{tears_on, has_ended}
+use Rattle.guest_rules.proofs.Kept.LocksKept.{locks_none}
 use Rattle.guest_rules.proofs.Kept.SlotsKept.{slot-below}
 use Rattle.guest_rules.proofs.Fit.Replies.{refused-same}
 use Rattle.guest_rules.proofs.Causes.Processors.{processor-answered, processor-next_command}
 use Rattle.guest_rules.proofs.Causes.CauseForms.{moved_phase, phase_after, others_move}
 use Rattle.guest_rules.proofs.Causes.RoomMoves.{no_room}
 use Rattle.guest_rules.proofs.Causes.TornSlots.{IsPast, is_past, torn_not_found}
-use Rattle.guest_rules.proofs.Causes.TakenOff.{IsTakenOff, taken-handled, taken-cleared, tearing_has}
+use Rattle.guest_rules.proofs.Causes.TakenOff.{IsTakenOff, taken-handled, taken-cleared, taken-released, taken-torn_off, tearing_has}
 use Rattle.guest_rules.proofs.Causes.SyncCauses.{last_index}
 
 not_sync : (number file : ℕ) → Unmap number ≡ Sync file → ⊥
@@ -140,3 +141,31 @@ tear_causes g v w d e cpu slot index h t f (tear_gone tag pte found k entry has 
     torn_past_causes g v w d e cpu slot index after h t k (taken-handled g slot index pte entry) (is_past g cpu slot index after h t passes)
 tear_causes g v w d e cpu slot index h t f (was_cleared_at tag pte found after k entry shows back may told passes) =
     torn_past_causes g v w d e cpu slot index after h t k (taken-cleared g v w d cpu slot index pte found after f k entry told) (is_past g cpu slot index after h t passes)
+
+-- ---- a page was taken off a mapping of pages of its own
+
+not_at_start : (g : GuestState) (cpu slot index : ℕ) → (processor_at g cpu).phase ≡ Teardown slot index → (processor_at g cpu).phase ≡ Start → ⊥
+not_at_start g cpu slot index phase start = let bad : Teardown slot index ≡ Start = sym phase ∙ start in cc
+
+pub tear_own_causes : (g : GuestState) (v w : StorageView) (d e : DiskView) (cpu slot index : ℕ) (h : GuestState) (t : Turn) → Fit g v d → TearsOwn g slot
+    → TearOwnCase g cpu slot index v d h t w e → AnswerCause g v d cpu t h w e
+tear_own_causes g v w d e cpu slot index h t f its (had_no_page_of_its k none passes ew ee) =
+    let after = released g.parts slot index in
+    torn_past_causes g v w d e cpu slot index after h t k (taken-released g v d cpu slot index f k its none) (is_past g cpu slot index after h t passes)
+tear_own_causes g v w d e cpu slot index h t f its (tear_waited page owner k found locked eh et ew ee) =
+    rw et (
+      eh,
+      ew,
+      ee,
+      record {
+        locked = locked;
+        command = (Unmap k.tearing.number, k.tearing.command);
+        other = λ same. locks_none g cpu (Teardown slot index) k.phase tt page (f.locks.locked cpu page (locked ∙ ap Some same));
+        room = λ needing needs. absurd (not_at_start g cpu slot index k.phase needs.start);
+      },
+    )
+tear_own_causes g v w d e cpu slot index h t f its (tear_own_missed why k eh et may misses ee) =
+    rw et (record { tables = inl eh; command = (Unmap k.tearing.number, k.tearing.command) }, ee, misses.risen)
+tear_own_causes g v w d e cpu slot index h t f its (was_torn_off page found k has back may unused passes) =
+    let after = released (freed g.parts page) slot index in
+    torn_past_causes g v w d e cpu slot index after h t k (taken-torn_off g v w d e cpu slot index page found f k its has back may unused) (is_past g cpu slot index after h t passes)

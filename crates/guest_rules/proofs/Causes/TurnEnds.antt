@@ -2,7 +2,7 @@
 use Rattle.std.specs.Prelude.{◌≡◌, ℕ, ◌/◌, ◌%◌, ◌+◌, List, [], ◌∷◌, Bool, true, false, not, ◌&&◌, nat_lt, if◌then◌else◌, Option, Some, None, Result, Ok, Err, refl}
 use Rattle.cmm_types.specs.declared.page.TheConstants.{PAGE}
 use Rattle.cmm_types.specs.declared.page.Tag.{Tag}
-use Rattle.cmm_types.specs.declared.page.Tag.TheVariants.{File}
+use Rattle.cmm_types.specs.declared.page.Tag.TheVariants.{File, Anon}
 use Rattle.cmm_types.specs.declared.command.Op.{Op}
 use Rattle.cmm_types.specs.declared.command.Op.TheVariants.{Read, Write, Sync, MapFile, MapAnon, Unmap, Load, Store, Pin, Unpin}
 use Rattle.cmm_types.specs.declared.command.Reply.TheVariants.{Done}
@@ -35,13 +35,13 @@ use Rattle.guest_rules.specs.declared.outcome.Synced.TheVariants.{Clean, Locked,
 use Rattle.guest_rules.specs.declared.outcome.Room.{Room}
 use Rattle.guest_rules.specs.declared.outcome.Room.TheVariants.{Freed, Locked as RoomLocked, Waits as RoomWaits, NoPage, Again as RoomAgain}
 use Rattle.guest_rules.specs.GuestState.{GuestState, processor_at, with_parts, with_phase, entered, next_command}
-use Rattle.guest_rules.specs.Rows.{read_page, write_page, load_page, store_through, resolve, fill, pin_page, clear_entry}
+use Rattle.guest_rules.specs.Rows.{read_page, write_page, load_page, store_through, resolve, fill, pin_page, clear_entry, tear_page, released}
 use Rattle.guest_rules.specs.Syncs.{sync_page, write_back}
 use Rattle.guest_rules.specs.MakeRoom.{make_room}
-use Rattle.guest_rules.specs.Turns.{file_pages, passed, refusal_in, begin_turn, missed_next, read_next, done_next, resolve_next, resolve_in, pin_next, pin_in, use_turn, hit_turn, room_next, room_turn, start_free, start_locked, start_found, start_tagged, start_at, start_entry, start_mapped, start_placed, map_turn, unmap_turn, torn_past, torn_next, teardown_entry, teardown_shown, teardown_in, teardown_turn, sync_next, sync_found, sync_turn, written_next, write_back_turn, start_accepted, start_refused, start_turn, fill_next, fill_turn, page_out_turn, turn_in, turn_on, turn}
+use Rattle.guest_rules.specs.Turns.{file_pages, passed, refusal_in, begin_turn, missed_next, read_next, done_next, resolve_next, resolve_in, pin_next, pin_in, use_turn, hit_turn, room_next, room_turn, start_free, start_locked, start_found, start_tagged, start_at, start_entry, start_mapped, start_placed, map_turn, unmap_turn, torn_past, torn_next, teardown_entry, teardown_owned, teardown_page, teardown_shown, teardown_in, teardown_turn, sync_next, sync_found, sync_turn, written_next, write_back_turn, start_accepted, start_refused, start_turn, fill_next, fill_turn, page_out_turn, turn_in, turn_on, turn}
 use Rattle.guest_rules.specs.Again.{WhyAgain}
 use Rattle.guest_rules.proofs.Causes.Ends.{Ends, ends_bind, ends_map, missed_in}
-use Rattle.guest_rules.proofs.Causes.RowEnds.{MissNames, PlacedNames, FilledNames, SyncedNames, read_ends, write_ends, load_ends, store_ends, resolve_ends, pin_ends, clear_ends, fill_ends, sync_ends, write_back_ends}
+use Rattle.guest_rules.proofs.Causes.RowEnds.{MissNames, PlacedNames, FilledNames, SyncedNames, read_ends, write_ends, load_ends, store_ends, resolve_ends, pin_ends, clear_ends, tear_ends, fill_ends, sync_ends, write_back_ends}
 use Rattle.guest_rules.proofs.Causes.RoomEnds.{RoomNames, make_room_ends}
 
 -- an answer `Again` is that of the call that missed last
@@ -245,9 +245,18 @@ teardown_entry_ends g cpu slot index count None = torn_names g cpu slot index co
 teardown_entry_ends g cpu slot index count (Some pte) =
     row_ends (clear_entry g.parts slot index pte) (torn_next g cpu slot index count) PlacedNames (clear_ends g.parts slot index pte) (torn_follows g cpu slot index count)
 
+teardown_owned_ends : (g : GuestState) (cpu slot index count page : ℕ) (owner : Option ℕ) → Ends (teardown_owned g cpu slot index count page owner) None TurnNames
+teardown_owned_ends g cpu slot index count page (Some owner) = tt
+teardown_owned_ends g cpu slot index count page None =
+    row_ends (tear_page g.parts slot index page) (torn_next g cpu slot index count) PlacedNames (tear_ends g.parts slot index page) (torn_follows g cpu slot index count)
+
+teardown_page_ends : (g : GuestState) (cpu slot index count : ℕ) (page : Option ℕ) → Ends (teardown_page g cpu slot index count page) None TurnNames
+teardown_page_ends g cpu slot index count None = torn_names (with_parts g (released g.parts slot index)) cpu slot index count None
+teardown_page_ends g cpu slot index count (Some page) = teardown_owned_ends g cpu slot index count page (info_at g.parts.pages page).owner
+
 teardown_shown_ends : (g : GuestState) (cpu slot index count : ℕ) (shown : Shown) → Ends (teardown_shown g cpu slot index count shown) None TurnNames
 teardown_shown_ends g cpu slot index count (OfFile file first writable) = teardown_entry_ends g cpu slot index count (entry_at g.parts.maps slot index)
-teardown_shown_ends g cpu slot index count OfItsOwn = tt
+teardown_shown_ends g cpu slot index count OfItsOwn = teardown_page_ends g cpu slot index count (page_of g.parts.cache (Anon slot index))
 
 teardown_in_ends : (g : GuestState) (cpu slot index : ℕ) (mapping : Option Slot) → Ends (teardown_in g cpu slot index mapping) None TurnNames
 teardown_in_ends g cpu slot index None = tt
@@ -297,7 +306,7 @@ accepted_ends g cpu (Write file off bytes) = tagged_ends g cpu (Write file off b
 accepted_ends g cpu (Sync file) = sync_turn_ends g cpu (Sync file) 0
 accepted_ends g cpu (MapFile number file first count writable) =
     map_ends g cpu (MapFile number file first count writable) number (OfFile file first writable) count (free_slot g.parts.maps)
-accepted_ends g cpu (MapAnon number count) = tt
+accepted_ends g cpu (MapAnon number count) = map_ends g cpu (MapAnon number count) number OfItsOwn count (free_slot g.parts.maps)
 accepted_ends g cpu (Unmap number) = unmap_ends g cpu (Unmap number) (find_slot g.parts.maps (process_of g.plan cpu) number)
 accepted_ends g cpu (Load number off len) = mapped_ends g cpu (Load number off len) false off (find_slot g.parts.maps (process_of g.plan cpu) number)
 accepted_ends g cpu (Store number off bytes) = mapped_ends g cpu (Store number off bytes) true off (find_slot g.parts.maps (process_of g.plan cpu) number)

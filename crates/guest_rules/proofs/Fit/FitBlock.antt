@@ -3,7 +3,6 @@ use Rattle.std.proofs.Common.{◌≡◌, ◌≢◌, ◌<◌, ℕ, true, List, []
 use Rattle.std.proofs.lemmas.List.Elements.{All-set}
 use Rattle.cmm_types.specs.declared.page.TheConstants.{PAGE}
 use Rattle.cmm_types.specs.declared.page.Tag.{Tag}
-use Rattle.cmm_types.specs.declared.page.Tag.TheVariants.{File}
 use Rattle.cmm_io.specs.DiskView.{DiskView, AreBlocks, with_block}
 use Rattle.cmm_flat.specs.State.{FlatState}
 use Rattle.essa_state.specs.PageValue.{Bytes}
@@ -14,7 +13,9 @@ use Rattle.guest_cache.specs.Laws.CacheLaws.{block_exact, backing_of-below}
 use Rattle.guest_rules.specs.GuestState.{GuestState}
 use Rattle.guest_rules.specs.Fit.{FitAt, backing, backed, block_bytes, current, current_at, current_bytes}
 use Rattle.guest_rules.proofs.Kept.Changes.{cases_tag}
-use Rattle.guest_rules.proofs.Kept.WholePages.{whole_page}
+use Rattle.guest_rules.proofs.Kept.FlatTags.{flat_tag-is}
+use Rattle.guest_rules.proofs.Kept.PageFits.{tagged-below}
+use Rattle.guest_rules.proofs.Fit.FitMay.{infos-pages}
 use Rattle.guest_rules.proofs.Ready.ReadyCalls.{blocks-most}
 
 -- the block of a tag was written
@@ -75,7 +76,6 @@ pub FitAt-block : (state : FlatState) (g : GuestState) (v : StorageView) (d e : 
 FitAt-block state g v d e page tag block bytes f k = record {
   sizes = record {
     range = f.sizes.range;
-    built = f.sizes.built;
     infos = f.sizes.infos;
     pages = f.sizes.pages;
     processors = f.sizes.processors;
@@ -89,6 +89,7 @@ FitAt-block state g v d e page tag block bytes f k = record {
   slots = f.slots;
   entries = f.entries;
   pins = f.pins;
+  tags = f.tags;
   locks = f.locks;
   teardowns = f.teardowns;
   hints = f.hints;
@@ -98,6 +99,7 @@ FitAt-block state g v d e page tag block bytes f k = record {
     blocks = subst (λ n. AreBlocks n e.blocks) (sym k.count)
         (subst (λ o. AreBlocks d.count o) (sym written.now) (length-set written.blocks block bytes ∙ are.0, All-set (λ b. length b ≡ PAGE) written.blocks block bytes whole are.1));
     not_blank = f.contents.not_blank;
+    whole = f.contents.whole;
     same = λ i t below tagged fresh clean unchanged there. elim (cases_tag t tag) [
       | inl z ↦
           let here : page_of g.parts.cache tag ≡ Some i = ap (page_of g.parts.cache) (sym z) ∙ (f.pages.indexed i t tagged).1 in
@@ -108,7 +110,7 @@ FitAt-block state g v d e page tag block bytes f k = record {
           f.contents.same i t below tagged fresh clean unchanged there ∙ ap (λ b. Bytes b) (sym (backing-elsewhere g.parts.cache d e tag block bytes t written (f.pages.indexed i t tagged).0 n))
     ];
   };
-  flat = record { lengths = f.flat.lengths; pages = λ i j is. f.flat.pages i j is ∙ sym (current-same (File i j) is) };
+  flat = record { lengths = f.flat.lengths; sound = f.flat.sound; pages = λ t is. f.flat.pages t is ∙ sym (current-same t (flat_tag-is state g v d f.sizes f.slots t is)) };
   journal = f.journal;
   faults = f.faults;
 }
@@ -120,9 +122,7 @@ FitAt-block state g v d e page tag block bytes f k = record {
     are = rw written.told at f.contents.blocks
 
     whole : length bytes ≡ PAGE
-    whole =
-        let of_file = f.pins.of_files page tag k.tagged in
-        whole_page state g v d page of_file.0 of_file.1 bytes f (k.tagged ∙ ap Some of_file.2) k.uptodate k.are
+    whole = f.contents.whole page tag bytes (rw (infos-pages g v d f.sizes) at (tagged-below g.parts.pages page tag k.tagged)) k.tagged k.uptodate k.are
 
     -- the page's bytes count, whatever backs them
     here : (y : DiskView) → current g.parts v y tag ≡ bytes

@@ -1,5 +1,5 @@
 -- Fit of the whole guest, from fit of its parts, where one page changed.
-use Rattle.std.proofs.Common.{◌≡◌, ◌≢◌, ◌<◌, ◌≤◌, ◌+◌, ℕ, length, ap, sym, ◌∙◌, inl, inr, subst, arith}
+use Rattle.std.proofs.Common.{◌≡◌, ◌≢◌, ◌<◌, ◌≤◌, ◌+◌, ℕ, length, Some, ap, sym, ◌∙◌, inl, inr, subst, arith}
 use Rattle.std.specs.List.{sum_by}
 use Rattle.std.proofs.lemmas.Bool.{cases_eq}
 use Rattle.cmm_io.specs.DiskView.{DiskView}
@@ -9,23 +9,39 @@ use Rattle.essa_state.specs.PageValue.{MayBecome}
 use Rattle.cmm_storage.specs.StorageView.{StorageView}
 use Rattle.guest_pages.specs.declared.info.PageInfo.{PageInfo}
 use Rattle.guest_pages.specs.PagesView.{info_at}
+use Rattle.cmm_types.specs.declared.page.Tag.{Tag}
+use Rattle.guest_maps.specs.MapsView.{slot_at}
 use Rattle.guest_rules.specs.declared.processor.Phase.{Phase}
+use Rattle.guest_rules.specs.declared.processor.Phase.TheVariants.{Teardown}
+use Rattle.guest_rules.specs.declared.processor.Processor.{Processor}
 use Rattle.guest_rules.specs.GuestState.{GuestState, processor_at}
-use Rattle.guest_rules.specs.Fit.{PagesFit, SlotsFit, EntriesFit, FlatFit, LocksFit, JournalFit, FaultsFit, FitAt, one_if_lost, entries_of, commands_of}
+use Rattle.guest_rules.specs.Fit.{PagesFit, SlotsFit, EntriesFit, PinsFit, FlatFit, LocksFit, TeardownsFit, JournalFit, FaultsFit, FitAt, IsUsedTag, one_if_lost, entries_of, own_pages, commands_of}
 use Rattle.guest_rules.proofs.Cases.TurnCases.{GivenBack}
 use Rattle.guest_rules.proofs.Rows.ValueLaws.{may-faults}
 use Rattle.guest_rules.proofs.Kept.Faults.{sum_below-more}
 use Rattle.guest_rules.proofs.Kept.Changes.{InfoChange, PhaseChange, same-answered}
 use Rattle.guest_rules.proofs.Kept.PageFits.{PageFits, EachPageFits, PageFits-may, PageFits-same, EachPageFits-from, HintsFit-from, ContentsFit-from}
-use Rattle.guest_rules.proofs.Kept.PinsKept.{PinsStand, PinsFit-from}
-use Rattle.guest_rules.proofs.Kept.TeardownsKept.{KeepsTorn, keeps_tearing-phase, TeardownsFit-kept}
+use Rattle.guest_rules.proofs.Kept.TagsKept.{tags_stand, TagsFit-from, TagsStand-info}
+use Rattle.guest_rules.proofs.Kept.FlatTags.{flat_tag-is}
+use Rattle.guest_rules.proofs.Kept.TeardownsKept.{KeepsTorn, KeepsTearing, KeepsUntagged, keeps_tearing-phase, TeardownsFit-kept}
 use Rattle.guest_rules.proofs.Kept.Currents.{SameCurrent}
 use Rattle.guest_rules.proofs.Fit.FitMay.{infos-pages}
 
+-- a processor that tears a mapping down did so before, and this one has as many pages of its own
+abbrev pub KeepsEnded : GuestState → GuestState → Type 0
+KeepsEnded g h = (cpu slot index : ℕ) → (processor_at h cpu).phase ≡ Teardown slot index
+    → (at : ℕ) × ((processor_at g cpu).phase ≡ Teardown slot at) × (own_pages (slot_at h.parts.maps slot) ≡ own_pages (slot_at g.parts.maps slot))
+
+pub keeps_ended : (g h : GuestState) → TeardownsFit g → KeepsTearing g h → KeepsTorn g.parts.maps h.parts.maps → KeepsEnded g h
+keeps_ended g h f kept torn cpu slot index e =
+    let before : (processor_at g cpu).phase ≡ Teardown slot index = ap (λ (p : Processor). p.phase) (sym (kept.was cpu slot index e)) ∙ e in
+    let k = f.tearing cpu slot index before in
+    (index, before, ap own_pages (torn.stays slot k.mapping k.at k.torn ∙ sym k.at))
+
 -- the same journal, of which each processor has as many entries
 pub JournalFit-kept : (g h : GuestState) → JournalFit g → h.plan ≡ g.plan → h.journal ≡ g.journal → length h.processors ≡ length g.processors
-    → ((q : ℕ) → entries_of (processor_at h q) ≡ entries_of (processor_at g q)) → sum_by entries_of h.processors ≡ sum_by entries_of g.processors → JournalFit h
-JournalFit-kept g h f plan journal size same sums = record {
+    → ((q : ℕ) → entries_of (processor_at h q) ≡ entries_of (processor_at g q)) → sum_by entries_of h.processors ≡ sum_by entries_of g.processors → KeepsEnded g h → JournalFit h
+JournalFit-kept g h f plan journal size same sums ended = record {
   legal = rw (plan, journal) f.legal;
   places = λ q below.
       let was : (progress_of (walk_of h.plan (start_of h.plan) h.journal) q).next ≡ entries_of (processor_at g q) = rw (plan, journal) (f.places q (rw size at below)) in
@@ -34,11 +50,17 @@ JournalFit-kept g h f plan journal size same sums = record {
       let was : entries_of (processor_at g q) ≤ commands_of h.plan q = rw plan (f.within q (rw size at below)) in
       subst (λ n. n ≤ commands_of h.plan q) (sym (same q)) was;
   counted = ap length journal ∙ f.counted ∙ sym sums;
+  ended = λ q slot index e.
+      let was = ended q slot index e in
+      let before : (progress_of (walk_of h.plan (start_of h.plan) h.journal) q).ended ≡ own_pages (slot_at g.parts.maps slot) = rw (plan, journal) (f.ended q slot was.0 was.1) in
+      before ∙ sym was.2;
 }
 
 -- only a processor's phase changed, and not what it tears down
-pub JournalFit-phase : (g h : GuestState) (cpu : ℕ) (phase : Phase) → JournalFit g → h.plan ≡ g.plan → h.journal ≡ g.journal → PhaseChange g.processors h.processors cpu phase → JournalFit h
-JournalFit-phase g h cpu phase f plan journal change = JournalFit-kept g h f plan journal change.size same change.entries
+pub JournalFit-phase : (g h : GuestState) (cpu : ℕ) (phase : Phase) → JournalFit g → TeardownsFit g → h.plan ≡ g.plan → h.journal ≡ g.journal → PhaseChange g.processors h.processors cpu phase
+    → KeepsTorn g.parts.maps h.parts.maps → JournalFit h
+JournalFit-phase g h cpu phase f teardowns plan journal change torn =
+    JournalFit-kept g h f plan journal change.size same change.entries (keeps_ended g h teardowns (keeps_tearing-phase g h cpu phase plan change) torn)
   where
     same : (q : ℕ) → entries_of (processor_at h q) ≡ entries_of (processor_at g q)
     same q = elim (cases_eq q cpu) [
@@ -62,7 +84,10 @@ pub record TableStep (g : GuestState) (v : StorageView) (d : DiskView) (h : Gues
   pub info_change : InfoChange g.parts.pages h.parts.pages page info
   pub phase_change : PhaseChange g.processors h.processors cpu phase
   pub torn : KeepsTorn g.parts.maps h.parts.maps
-  pub pins : PinsStand h.parts
+  pub untagged : KeepsUntagged g.parts h.parts.cache
+  pub mappings : h.parts.maps.slots ≡ g.parts.maps.slots
+  pub used : (tag : Tag) → info.tag ≡ Some tag → IsUsedTag g.parts.maps tag
+  pub pins : PinsFit h.parts
   pub fits : PageFits g.parts.cache d info (w.values page)
 
 -- so many discards are handled in the step
@@ -82,8 +107,9 @@ pub step-same : (state : FlatState) (g : GuestState) (v : StorageView) (d : Disk
     → FitAt state g v d
     → TableStep g v d h w e cpu page phase info → SameCurrent g.parts v d h.parts w e page
 step-same state g v d h w e cpu page phase info f step = record {
-  fits = EachPageFits-from g.parts v d (infos-pages g v d f.sizes) f.pins f.hints f.contents;
+  fits = EachPageFits-from g.parts v d (infos-pages g v d f.sizes) f.tags f.hints f.contents;
   pages = f.pages;
+  flat_is = flat_tag-is state g v d f.sizes f.slots;
   files = step.files;
   swap = step.swap;
   blocks = step.back.blocks;
@@ -97,7 +123,6 @@ pub FitAt-step : (state later : FlatState) (g : GuestState) (v : StorageView) (d
 FitAt-step state later g v d h w e cpu page more phase info f step pages slots entries locks flat faults = record {
   sizes = record {
     range = rw step.plan f.sizes.range;
-    built = rw step.plan f.sizes.built;
     infos = rw (step.plan, step.info_change.size) f.sizes.infos;
     pages = rw (step.plan, step.back.keeps.pages) f.sizes.pages;
     processors = rw (step.plan, step.phase_change.size) f.sizes.processors;
@@ -110,14 +135,15 @@ FitAt-step state later g v d h w e cpu page more phase info f step pages slots e
   pages = pages;
   slots = slots;
   entries = entries;
-  pins = PinsFit-from h.parts w e step.pins fits;
+  pins = step.pins;
+  tags = TagsFit-from h.parts w e (TagsStand-info g.parts h.parts page info (tags_stand g.parts v f.tags) step.info_change step.swap step.mappings step.used) fits;
   locks = locks;
-  teardowns = TeardownsFit-kept state g h f.slots f.teardowns (keeps_tearing-phase g h cpu phase step.plan step.phase_change) step.torn;
+  teardowns = TeardownsFit-kept state g h f.slots f.teardowns (keeps_tearing-phase g h cpu phase step.plan step.phase_change) step.torn step.untagged;
   hints = HintsFit-from h.parts w e step.back.held fits;
   contents = ContentsFit-from h.parts w e (step.back.keeps.tells ∙ f.contents.tells) f.contents.told.0 (step.back.blocks ∙ f.contents.told.1)
       (rw (step.back.count, step.back.blocks) f.contents.blocks) fits;
   flat = flat;
-  journal = JournalFit-phase g h cpu phase f.journal step.plan step.journal step.phase_change;
+  journal = JournalFit-phase g h cpu phase f.journal f.teardowns step.plan step.journal step.phase_change step.torn;
   faults = FaultsFit-step g h v w more page f.faults step.back.keeps.pages step.below step.back.keeps.others faults;
 }
   where
@@ -125,7 +151,7 @@ FitAt-step state later g v d h w e cpu page more phase info f step pages slots e
     size = infos-pages g v d f.sizes
 
     before : EachPageFits g.parts v d
-    before = EachPageFits-from g.parts v d size f.pins f.hints f.contents
+    before = EachPageFits-from g.parts v d size f.tags f.hints f.contents
 
     fits : EachPageFits h.parts w e
     fits = record {

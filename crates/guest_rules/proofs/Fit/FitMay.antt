@@ -1,7 +1,6 @@
 -- What the host did meanwhile keeps fit.
 use Rattle.std.proofs.Common.{◌≡◌, ◌<◌, ℕ, Option, Some, None, length, refl, ap, sym, ◌∙◌, arith}
 use Rattle.cmm_types.specs.declared.page.Tag.{Tag}
-use Rattle.cmm_types.specs.declared.page.Tag.TheVariants.{File}
 use Rattle.cmm_io.specs.DiskView.{DiskView}
 use Rattle.cmm_flat.specs.State.{FlatState}
 use Rattle.cmm_storage.specs.StorageView.{StorageView}
@@ -14,6 +13,8 @@ use Rattle.guest_rules.proofs.Rows.ValueLaws.{may-faults}
 use Rattle.guest_rules.proofs.Kept.Faults.{sum_below-le}
 use Rattle.guest_rules.proofs.Kept.PageFits.{EachPageFits, PageFits-may, PageFits-same, EachPageFits-from, HintsFit-from, ContentsFit-from, backing-same}
 use Rattle.guest_rules.proofs.Kept.Currents.{current_bytes-may}
+use Rattle.guest_rules.proofs.Kept.TagsKept.{tags_stand, TagsFit-from}
+use Rattle.guest_rules.proofs.Kept.FlatTags.{flat_tag-is}
 
 pub infos-pages : (g : GuestState) (v : StorageView) (d : DiskView) → SizesFit g v d → length g.parts.pages.infos ≡ v.pages
 infos-pages g v d f = f.infos ∙ sym f.pages
@@ -22,7 +23,6 @@ pub FitAt-may : (state : FlatState) (g : GuestState) (v : StorageView) (d : Disk
 FitAt-may state g v d w e f may = record {
   sizes = record {
     range = f.sizes.range;
-    built = f.sizes.built;
     infos = f.sizes.infos;
     pages = may.pages ∙ f.sizes.pages;
     processors = f.sizes.processors;
@@ -36,11 +36,12 @@ FitAt-may state g v d w e f may = record {
   slots = f.slots;
   entries = f.entries;
   pins = f.pins;
+  tags = TagsFit-from g.parts w e (tags_stand g.parts v f.tags) fits;
   locks = f.locks;
   teardowns = f.teardowns;
   hints = HintsFit-from g.parts w e may.held fits;
   contents = ContentsFit-from g.parts w e (may.tells ∙ f.contents.tells) f.contents.told.0 (may.blocks ∙ f.contents.told.1) (rw (may.count, may.blocks) f.contents.blocks) fits;
-  flat = record { lengths = f.flat.lengths; pages = λ file index is. f.flat.pages file index is ∙ sym (same (File file index) is) };
+  flat = record { lengths = f.flat.lengths; sound = f.flat.sound; pages = λ tag is. f.flat.pages tag is ∙ sym (same tag (flat_tag-is state g v d f.sizes f.slots tag is)) };
   journal = f.journal;
   faults = rw may.pages (omega (
     arith,
@@ -54,7 +55,7 @@ FitAt-may state g v d w e f may = record {
     size = infos-pages g v d f.sizes
 
     before : EachPageFits g.parts v d
-    before = EachPageFits-from g.parts v d size f.pins f.hints f.contents
+    before = EachPageFits-from g.parts v d size f.tags f.hints f.contents
 
     fits : EachPageFits g.parts w e
     fits = record {

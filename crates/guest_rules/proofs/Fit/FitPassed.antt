@@ -22,8 +22,9 @@ use Rattle.guest_rules.specs.Fit.{IsSyncing, HasLocked, FitAt, Fit}
 use Rattle.guest_rules.proofs.Cases.TurnCases.{Has}
 use Rattle.guest_rules.proofs.Kept.Changes.{PhaseChange, teardown_of, change-with_phase}
 use Rattle.guest_rules.proofs.Kept.LocksKept.{LocksNone, PhaseFits, LocksFit-passed}
-use Rattle.guest_rules.proofs.Kept.TeardownsKept.{sync-tears_nothing, keeps_tearing-phase, keeps_torn-same, TeardownsFit-kept}
-use Rattle.guest_rules.proofs.Fit.FitOthers.{FitAt-others}
+use Rattle.guest_rules.proofs.Kept.TeardownsKept.{sync-tears_nothing, keeps_tearing-phase, keeps_torn-same, untagged-same, TeardownsFit-kept}
+use Rattle.guest_rules.proofs.Kept.TagsKept.{tags_stand}
+use Rattle.guest_rules.proofs.Fit.FitOthers.{FlatFit-others, FitAt-others}
 use Rattle.guest_rules.proofs.Fit.FitChanged.{JournalFit-phase}
 use Rattle.guest_rules.proofs.Fit.Replies.{Fit-stepped, refused-same}
 use Rattle.guest_rules.proofs.Cases.Passed.{HasPassed, goes_on, is_done}
@@ -50,14 +51,16 @@ pub FitAt-phase : (state : FlatState) (g : GuestState) (v : StorageView) (d : Di
     → PhaseFits (with_phase g cpu phase) cpu phase → FitAt state (with_phase g cpu phase) v d
 unfolding with_phase
 FitAt-phase state g v d cpu phase f below own none teardown now =
-    FitAt-others state state g v d g.parts.maps g.journal (set g.processors cpu (record { place = (processor_at g cpu).place; phase = phase })) f refl change.size (record {
+    FitAt-others state state g v d g.parts.maps g.journal (set g.processors cpu (record { place = (processor_at g cpu).place; phase = phase })) f
+    (FlatFit-others state g v d g.parts.maps g.journal (set g.processors cpu (record { place = (processor_at g cpu).place; phase = phase })) f.flat (λ slot live. refl)) change.size (record {
       slots = f.slots;
       entries = f.entries;
       pins = f.pins;
+      tags = tags_stand g.parts v f.tags;
       locks = LocksFit-passed g (with_phase g cpu phase) cpu phase f.locks refl refl refl change.size (ap (λ (p : Processor). p.phase) change.here) change.others own none now;
       teardowns = TeardownsFit-kept state g (with_phase g cpu phase) f.slots f.teardowns (keeps_tearing-phase g (with_phase g cpu phase) cpu phase refl change)
-          (keeps_torn-same g.parts.maps g.parts.maps refl);
-      journal = JournalFit-phase g (with_phase g cpu phase) cpu phase f.journal refl refl change;
+          (keeps_torn-same g.parts.maps g.parts.maps refl) (untagged-same g.parts g.parts.cache refl);
+      journal = JournalFit-phase g (with_phase g cpu phase) cpu phase f.journal f.teardowns refl refl change (keeps_torn-same g.parts.maps g.parts.maps refl);
     })
   where
     change : PhaseChange g.processors (set g.processors cpu (record { place = (processor_at g cpu).place; phase = phase })) cpu phase

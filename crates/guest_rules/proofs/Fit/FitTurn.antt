@@ -16,7 +16,7 @@ use Rattle.guest_rules.specs.Rows.{freed}
 use Rattle.guest_rules.specs.Turns.{begun}
 use Rattle.guest_rules.specs.Fit.{Fit, NeedsPage}
 use Rattle.guest_rules.specs.Answers.{FailCause}
-use Rattle.guest_rules.proofs.Cases.TurnCases.{GivenBack, Has, Maps, TurnCase, was_idle, was_refused, was_mapped, waited, missed, missed_rehinted, was_begun, was_gone, was_read, was_written, touch_failed, was_resolved, was_loaded, was_stored, entry_failed, fill_failed, was_filled, was_pinned, was_sync, was_room, was_unmapped, was_torn}
+use Rattle.guest_rules.proofs.Cases.TurnCases.{GivenBack, Has, Maps, TurnCase, was_idle, was_refused, was_mapped, waited, missed, missed_rehinted, was_begun, was_gone, was_read, was_written, touch_failed, was_resolved, was_loaded, was_stored, entry_failed, fill_failed, was_filled, was_pinned, was_sync, was_room, was_mapped_own, was_unmapped, was_torn, was_torn_own}
 use Rattle.guest_rules.proofs.Fit.FitMay.{FitAt-may}
 use Rattle.guest_rules.proofs.Fit.StepBegun.{Fit-begun}
 use Rattle.guest_rules.proofs.Fit.StepFreed.{Fit-gone, Fit-given_up}
@@ -25,7 +25,7 @@ use Rattle.guest_rules.proofs.Fit.StepTold.{Fit-rehinted}
 use Rattle.guest_rules.proofs.Fit.StepResolved.{Fit-resolved}
 use Rattle.guest_rules.proofs.Fit.Replies.{Fit-refused, Fit-read, Fit-failed}
 use Rattle.guest_rules.proofs.Fit.ReplyWritten.{Fit-written}
-use Rattle.guest_rules.proofs.Fit.ReplyMapped.{Fit-mapped}
+use Rattle.guest_rules.proofs.Fit.ReplyMapped.{Fit-mapped, Fit-mapped_own}
 use Rattle.guest_rules.proofs.Fit.ReplyLoaded.{Fit-loaded}
 use Rattle.guest_rules.proofs.Fit.ReplyStored.{Fit-stored}
 use Rattle.guest_rules.proofs.Fit.ReplyPinned.{Fit-pinned}
@@ -33,7 +33,7 @@ use Rattle.guest_rules.proofs.Fit.FitPassed.{entered-start, start-has, start-pha
 use Rattle.guest_rules.proofs.Fit.FitSync.{Fit-sync}
 use Rattle.guest_rules.proofs.Fit.FitRoom.{Fit-room}
 use Rattle.guest_rules.proofs.Fit.ReplyUnmapped.{Fit-unmapped}
-use Rattle.guest_rules.proofs.Fit.FitTorn.{Fit-torn}
+use Rattle.guest_rules.proofs.Fit.FitTorn.{Fit-torn, Fit-torn_own}
 
 -- a page couldn't be filled: it is freed, and the command fails
 Fit-fill_failed : (g : GuestState) (v : StorageView) (d : DiskView) (w : StorageView) (e : DiskView) (cpu : ℕ) (op : Op) (page : ℕ) (cause : Cause) → Fit g v d → Has g cpu op
@@ -60,6 +60,7 @@ unfolding with_phase begun
 fit_turn g cpu v d h t w e f (was_idle none eh et ew ee) = rw (eh, ew, ee) f
 fit_turn g cpu v d h t w e f (was_refused op refusal has start refused eh et ew ee) = rw (eh, ew, ee) (Fit-refused g v d cpu op refusal f has start refused)
 fit_turn g cpu v d h t w e f (was_mapped number file first count writable slot starts free eh et ew ee) = rw (eh, ew, ee) (Fit-mapped g v d cpu number file first count writable slot f starts free)
+fit_turn g cpu v d h t w e f (was_mapped_own number count slot starts free eh et ew ee) = rw (eh, ew, ee) (Fit-mapped_own g v d cpu number count slot f starts free)
 fit_turn g cpu v d h t w e f (waited op page owner starts has locked eh et ew ee) = rw (eh, ew, ee) f
 fit_turn g cpu v d h t w e f (missed op why has eh et may risen ee) = rw eh (FitAt-may (flat_of g.plan g.journal) g v d w e f may)
 fit_turn g cpu v d h t w e f (missed_rehinted why op tag page found after starts wants has eh et back may told misses ee) =
@@ -90,4 +91,5 @@ fit_turn g cpu v d h t w e f (was_filled op page tag has phase tagged eh et back
 fit_turn g cpu v d h t w e f (was_sync file index case) = Fit-sync g v d h w e cpu file index t f case
 fit_turn g cpu v d h t w e f (was_room op case) = Fit-room g v d h w e cpu op t f case
 fit_turn g cpu v d h t w e f (was_unmapped number slot starts found eh et ew ee) = rw (eh, ew, ee) (Fit-unmapped g v d cpu number slot f starts found)
-fit_turn g cpu v d h t w e f (was_torn slot index case) = Fit-torn g v d h w e cpu slot index t f case
+fit_turn g cpu v d h t w e f (was_torn slot index its case) = Fit-torn g v d h w e cpu slot index t f its case
+fit_turn g cpu v d h t w e f (was_torn_own slot index its case) = Fit-torn_own g v d h w e cpu slot index t f its case

@@ -1,17 +1,16 @@
--- The bytes that are found in a page are those of its file.
+-- The bytes that are found in a page are those that the flat machine has of its tag's page.
 use Rattle.std.proofs.Common.{◌≡◌, ◌≤◌, ◌+◌, ◌*◌, ◌/◌, ◌%◌, ℕ, true, List, take, drop, Some, ap, sym, ◌∙◌, arith}
 use Rattle.cmm_types.specs.declared.page.TheConstants.{PAGE}
 use Rattle.cmm_types.specs.declared.page.Tag.{Tag}
-use Rattle.cmm_types.specs.declared.page.Tag.TheVariants.{File}
 use Rattle.cmm_io.specs.DiskView.{DiskView}
 use Rattle.cmm_types.specs.Bytes.{bytes_at}
 use Rattle.cmm_flat.specs.Laws.RangeLaws.{bytes_at-bytes_at}
-use Rattle.cmm_flat.specs.State.{FlatState, file_at}
+use Rattle.cmm_flat.specs.State.{FlatState}
 use Rattle.essa_state.specs.PageValue.{PageValue, Bytes, MayBecome}
 use Rattle.cmm_storage.specs.StorageView.{StorageView}
 use Rattle.guest_pages.specs.PagesView.{info_at}
 use Rattle.guest_rules.specs.GuestState.{GuestState}
-use Rattle.guest_rules.specs.Fit.{FitAt, backing, current, current_at, current_bytes}
+use Rattle.guest_rules.specs.Fit.{FitAt, IsFlatTag, flat_page, backing, current, current_at, current_bytes}
 use Rattle.guest_rules.proofs.Kept.PageFits.{PageFits, EachPageFits-from, tagged-below}
 use Rattle.guest_rules.proofs.Kept.Currents.{current_bytes-may}
 use Rattle.guest_rules.proofs.Fit.FitMay.{infos-pages}
@@ -26,7 +25,7 @@ pub record IsFound (g : GuestState) (v : StorageView) (page : ℕ) (tag : Tag) (
 pub found-fits : (state : FlatState) (g : GuestState) (v : StorageView) (d : DiskView) (page : ℕ) (tag : Tag) → FitAt state g v d → (info_at g.parts.pages page).tag ≡ Some tag
     → PageFits g.parts.cache d (info_at g.parts.pages page) (v.values page)
 found-fits state g v d page tag f tagged =
-    (EachPageFits-from g.parts v d (infos-pages g v d f.sizes) f.pins f.hints f.contents).each page (rw (infos-pages g v d f.sizes) at (tagged-below g.parts.pages page tag tagged))
+    (EachPageFits-from g.parts v d (infos-pages g v d f.sizes) f.tags f.hints f.contents).each page (rw (infos-pages g v d f.sizes) at (tagged-below g.parts.pages page tag tagged))
 
 pub found-current : (state : FlatState) (g : GuestState) (v : StorageView) (d : DiskView) (page : ℕ) (tag : Tag) (found : PageValue) (all : List ℕ) → FitAt state g v d
     → IsFound g v page tag found all → current g.parts v d tag ≡ all
@@ -37,11 +36,9 @@ found-current state g v d page tag found all f k =
     ∙ ap (λ u. current_bytes u found.contents behind) k.uptodate
     ∙ ap (λ c. current_bytes true c behind) k.are
 
-pub found-bytes : (state : FlatState) (g : GuestState) (v : StorageView) (d : DiskView) (page : ℕ) (tag : Tag) (found : PageValue) (all : List ℕ) (file index : ℕ) → FitAt state g v d
-    → IsFound g v page tag found all → tag ≡ File file index
-    → bytes_at (file_at state.files file) (PAGE * index) PAGE ≡ all
-found-bytes state g v d page tag found all file index f k is =
-    f.flat.pages file index (rw is at (f.pages.indexed page tag k.tagged).0) ∙ ap (current g.parts v d) (sym is) ∙ found-current state g v d page tag found all f k
+pub found-bytes : (state : FlatState) (g : GuestState) (v : StorageView) (d : DiskView) (page : ℕ) (tag : Tag) (found : PageValue) (all : List ℕ) → FitAt state g v d
+    → IsFlatTag g.parts tag → IsFound g v page tag found all → flat_page state g.parts.maps tag ≡ all
+found-bytes state g v d page tag found all f is k = f.flat.pages tag is ∙ found-current state g v d page tag found all f k
 
 -- bytes of a page are the file's, where its pages from one on are counted from 0
 pub bytes-in_page : (all : List ℕ) (first off len : ℕ) → off % PAGE + len ≤ PAGE

@@ -1,37 +1,31 @@
--- Where a guest has no page for a command, the two numbers of the failure are those that a legal journal allows: the pinned pages are at most
--- the flat machine's pinned mapping pages, since each of them has the tag of a pinned place, and no two pages have one tag.
+-- A guest's pinned pages are at most the flat machine's pinned mapping pages, since each of them has the tag of a pinned place, and no two pages
+-- have one tag.
 use Rattle.std.specs.FinMap.{FinMap, entries, get, remove, get-remove}
 use Rattle.std.specs.Ordering.{is_eq}
 use Rattle.std.specs.declared.cmp.Ordering.TheVariants.{Less, Equal, Greater}
-use Rattle.std.proofs.Common.{◌≡◌, ◌≢◌, ◌<◌, ◌≤◌, ◌-◌, ◌&&◌, ℕ, zero, suc, Bool, true, false, length, get_or, cond, Option, Some, None, refl, ap, sym, ◌∙◌, inl, inr, arith}
+use Rattle.std.proofs.Common.{◌≡◌, ◌≢◌, ◌<◌, ◌≤◌, ◌&&◌, ℕ, zero, suc, Bool, true, false, length, get_or, cond, count_by, Option, Some, None, refl, ap, sym, ◌∙◌, inl, inr, arith}
 use Rattle.std.proofs.lemmas.Bool.{cases_eq}
 use Rattle.std.proofs.lemmas.Bool.Decides.{nat_tests}
-use Rattle.std.proofs.lemmas.List.Sums.{count_by-le-length}
 use Rattle.cmm_types.specs.declared.command.TheConstants.{MAX_MAPPING_PAGES}
 use Rattle.cmm_types.specs.declared.page.Tag.{Tag}
-use Rattle.cmm_types.specs.declared.page.Tag.TheVariants.{Anon, File}
 use Rattle.cmm_flat.specs.declared.mapping.Place.{Place}
 use Rattle.cmm_flat.specs.declared.mapping.Mapping.{Mapping}
 use Rattle.cmm_flat.specs.Mapping.{place_cmp}
-use Rattle.cmm_flat.specs.State.{FlatState, place_of}
+use Rattle.cmm_flat.specs.State.{FlatState, mapping_at, place_of}
 use Rattle.cmm_flat.specs.Laws.PlaceLaws.{exact_places, places_total}
 use Rattle.cmm_flat.specs.Laws.SumLaws.{sum_over-remove}
-use Rattle.cmm_flat.specs.Legal.{HasNoPage, flat_of, walk_of, start_of, sum_over, pinned_pages, over_live}
-use Rattle.cmm_io.specs.DiskView.{DiskView}
-use Rattle.cmm_storage.specs.StorageView.{StorageView}
+use Rattle.cmm_flat.specs.Legal.{sum_over, pinned_pages, over_live}
 use Rattle.guest_pages.specs.PagesView.{info_at, free_info}
 use Rattle.guest_cache.specs.CacheView.{page_of}
-use Rattle.guest_maps.specs.FirstPlace.{none_within}
 use Rattle.guest_maps.specs.declared.slot.Slot.{Slot}
-use Rattle.guest_maps.specs.MapsView.{MapsView, slot_at, find_slot, is_mapping, pinned_at, tag_at, slot_has_page, one_if}
+use Rattle.guest_maps.specs.MapsView.{MapsView, slot_at, pinned_at, tag_at, slot_has_page, one_if}
 use Rattle.guest_rules.specs.declared.parts.Parts.{Parts}
 use Rattle.guest_rules.specs.GuestState.{GuestState}
 use Rattle.guest_rules.specs.MakeRoom.{is_pinned, pinned_count}
-use Rattle.guest_rules.specs.Stuck.{IsStuck}
-use Rattle.guest_rules.specs.Fit.{PagesFit, SlotsFit, PinsFit, TeardownsFit, Fit, flat_slot, flat_mapping, flat_found, pins_of, sum_below, is_tag_of, pin_on, pins_within}
-use Rattle.guest_rules.proofs.Cases.MapsFound.{found_slot, all_counted}
+use Rattle.guest_rules.specs.Fit.{PagesFit, SlotsFit, PinsFit, TeardownsFit, flat_slot, pins_of, sum_below, is_tag_of, pin_on, pins_within}
 use Rattle.guest_rules.proofs.Kept.PinLaws.{length-pins_of, pins_of-at, sum_below-same, sum_below-none, is_tag_of-is}
-use Rattle.guest_rules.proofs.Kept.SlotsKept.{slot-below}
+use Rattle.guest_rules.proofs.Kept.Shapes.{shape_some, shape_pins}
+use Rattle.guest_rules.proofs.Kept.FlatTags.{shape_at}
 use Rattle.guest_rules.proofs.Kept.Sums.{sum_below-mono, sum_below-swap, sum_below-single, sum_below-fewer, count_below, one_if-some, at_most, at_most-then}
 
 -- ---- pinned pages are at most as many as pinned places
@@ -88,7 +82,7 @@ one_page parts slot index count pages =
     let both_pages : Some p ≡ Some q = sym first ∙ ap (page_of parts.cache) same ∙ second in
     cc)
 
-pinned_places : (parts : Parts) → PagesFit parts → PinsFit parts → pinned_count parts ≤ sum_below (pinned_row parts.maps) (length parts.maps.slots)
+pub pinned_places : (parts : Parts) → PagesFit parts → PinsFit parts → pinned_count parts ≤ sum_below (pinned_row parts.maps) (length parts.maps.slots)
 pinned_places parts pages pins =
     let each = sum_below-mono (λ page. one_if (is_pinned (info_at parts.pages page)))
     (λ page. sum_below (λ slot. sum_below (pin_for parts.maps (info_at parts.pages page).tag slot) MAX_MAPPING_PAGES) slots) count
@@ -107,7 +101,8 @@ pinned_places parts pages pins =
     row : (slot : ℕ) → sum_below (λ page. sum_below (pin_for parts.maps (info_at parts.pages page).tag slot) MAX_MAPPING_PAGES) count ≤ pinned_row parts.maps slot
     row slot =
         let by_index = sum_below-swap (λ page index. pin_for parts.maps (info_at parts.pages page).tag slot index) count MAX_MAPPING_PAGES in
-        let most = sum_below-mono (λ index. sum_below (λ page. pin_for parts.maps (info_at parts.pages page).tag slot index) count) (λ index. one_if (pinned_at parts.maps slot index)) MAX_MAPPING_PAGES
+        let most = sum_below-mono (λ index. sum_below (λ page. pin_for parts.maps (info_at parts.pages page).tag slot index) count)
+        (λ index. one_if (pinned_at parts.maps slot index)) MAX_MAPPING_PAGES
         (λ index h. one_page parts slot index count pages) in
         at_most-then (at_most by_index) most
 
@@ -122,7 +117,7 @@ get_still m k q n =
     ] refl
 
 -- numbers that are at most those of mappings at different places are together at most the sum over all mappings
-sum_within : (R : ℕ → ℕ) (key : ℕ → Place) (number : Mapping → ℕ) (count : ℕ) (m : FinMap place_cmp Mapping)
+pub sum_within : (R : ℕ → ℕ) (key : ℕ → Place) (number : Mapping → ℕ) (count : ℕ) (m : FinMap place_cmp Mapping)
     → ((i : ℕ) → i < count → R i ≢ 0 → (x : Mapping) × (get m (key i) ≡ Some x) × (R i ≤ number x))
     → ((i j : ℕ) → i < count → j < count → R i ≢ 0 → R j ≢ 0 → key i ≡ key j → i ≡ j) → sum_below R count ≤ sum_over (λ live. number live.1) (entries m)
 sum_within R key number zero m each apart = omega arith
@@ -138,7 +133,7 @@ sum_within R key number (suc count) m each apart = elim (cases_eq (R count) 0) [
 ]
 
 -- the place of the mapping in a slot
-abbrev key_of : Option Slot → Place
+abbrev pub key_of : Option Slot → Place
 key_of None = place_of 0 0
 key_of (Some mapping) = place_of mapping.process mapping.map
 
@@ -167,7 +162,8 @@ pinned_live g slot mapping f at some = of mapping.live refl
 live_row : (state : FlatState) (parts : Parts) (slot : ℕ) (mapping : Slot) → SlotsFit state parts → slot_at parts.maps slot ≡ Some mapping
     → pinned_row parts.maps slot ≡ pinned_pages (flat_slot parts.maps slot mapping)
 live_row state parts slot mapping f at =
-    sum_below-fewer (λ index. one_if (pinned_at parts.maps slot index)) mapping.count MAX_MAPPING_PAGES (f.shown slot mapping at).0 (λ index past below. of index past below (pinned_at parts.maps slot index) refl)
+    sum_below-fewer (λ index. one_if (pinned_at parts.maps slot index)) mapping.count MAX_MAPPING_PAGES (f.shown slot mapping at).0
+    (λ index past below. of index past below (pinned_at parts.maps slot index) refl)
     ∙ sum_below-same (λ index. one_if (pinned_at parts.maps slot index)) (λ index. one_if (get_or (pins_of parts.maps slot mapping.count) index false)) mapping.count
     (λ index below. ap one_if (sym (pins_of-at parts.maps slot mapping.count index false below)))
     ∙ ap (sum_below (λ index. one_if (get_or (pins_of parts.maps slot mapping.count) index false))) (sym (length-pins_of parts.maps slot mapping.count))
@@ -179,30 +175,14 @@ live_row state parts slot mapping f at =
         let there : slot_has_page (Some mapping) index ≡ true = ap (λ o. slot_has_page o index) (sym at) ∙ f.placed slot index below e in
         absurd (grind (arith, nat_tests))
 
--- the slot of a live mapping is found by its process and number
-finds : (state : FlatState) (parts : Parts) (slot : ℕ) (mapping : Slot) → SlotsFit state parts → slot_at parts.maps slot ≡ Some mapping → mapping.live ≡ true
-    → find_slot parts.maps mapping.process mapping.map ≡ Some slot
-finds state parts slot mapping f at live = of (find_slot parts.maps mapping.process mapping.map) refl
-  where
-    of : (o : Option ℕ) → find_slot parts.maps mapping.process mapping.map ≡ o → o ≡ Some slot
-    of None e =
-        let within : slot < length parts.maps.slots = slot-below parts.maps slot mapping at in
-        let no : is_mapping mapping.process mapping.map (Some mapping) ≡ false =
-        ap (is_mapping mapping.process mapping.map) (sym at) ∙ none_within (is_mapping mapping.process mapping.map) parts.maps.slots None e slot within in
-        absurd (grind (arith, nat_tests))
-    of (Some other) e = let k = found_slot parts.maps mapping.process mapping.map other e in ap Some (f.apart other slot k.mapping mapping k.at at k.live live k.process_is k.number_is)
-
 -- the flat machine's mapping of a slot in which a page is pinned
 pinned_mapping : (state : FlatState) (g : GuestState) (slot : ℕ) (o : Option Slot) → SlotsFit state g.parts → TeardownsFit g → slot_at g.parts.maps slot ≡ o → pinned_row g.parts.maps slot ≢ 0
     → (x : Mapping) × (get state.mappings (key_of o) ≡ Some x) × (pinned_row g.parts.maps slot ≤ pinned_pages x)
 pinned_mapping state g slot None f teardowns at some = absurd (some (free_row state g.parts slot f at))
-pinned_mapping state g slot (Some mapping) f teardowns at some = (
-  flat_slot g.parts.maps slot mapping,
-  f.flat mapping.process mapping.map
-      ∙ ap (flat_found g.parts.maps) (finds state g.parts slot mapping f at (pinned_live g slot mapping teardowns at some))
-      ∙ ap (flat_mapping g.parts.maps slot) at,
-  at_most (live_row state g.parts slot mapping f at),
-)
+pinned_mapping state g slot (Some mapping) f teardowns at some =
+    let k = shape_some (mapping_at state mapping.process mapping.map) (flat_slot g.parts.maps slot mapping)
+    (shape_at state g.parts slot mapping f at (pinned_live g slot mapping teardowns at some)) in
+    (k.0, k.1, at_most (live_row state g.parts slot mapping f at ∙ sym (ap (λ pins. count_by (λ pin. pin) pins) (shape_pins k.0 (flat_slot g.parts.maps slot mapping) k.2))))
 
 -- no two of them are of one place
 apart_mappings : (state : FlatState) (g : GuestState) (slot other : ℕ) (o p : Option Slot) → SlotsFit state g.parts → TeardownsFit g → slot_at g.parts.maps slot ≡ o
@@ -213,29 +193,8 @@ apart_mappings state g slot other (Some mapping) (Some another) f teardowns at t
     f.apart slot other mapping another at there (pinned_live g slot mapping teardowns at some) (pinned_live g other another teardowns there more) (ap (λ (k : Place). k.process) same)
     (ap (λ (k : Place). k.map) same)
 
-pinned_rows : (state : FlatState) (g : GuestState) (count : ℕ) → SlotsFit state g.parts → TeardownsFit g → sum_below (pinned_row g.parts.maps) count ≤ over_live pinned_pages state
+pub pinned_rows : (state : FlatState) (g : GuestState) (count : ℕ) → SlotsFit state g.parts → TeardownsFit g → sum_below (pinned_row g.parts.maps) count ≤ over_live pinned_pages state
 pinned_rows state g count f teardowns =
     sum_within (pinned_row g.parts.maps) (λ slot. key_of (slot_at g.parts.maps slot)) pinned_pages count state.mappings
     (λ slot below some. pinned_mapping state g slot (slot_at g.parts.maps slot) f teardowns refl some)
     (λ slot other a b some more same. apart_mappings state g slot other (slot_at g.parts.maps slot) (slot_at g.parts.maps other) f teardowns refl refl some more same)
-
--- ---- the failure
-
--- each page is pinned: none is anonymous
-each_pinned : (parts : Parts) (page : ℕ) → PinsFit parts → IsStuck parts → page < length parts.pages.infos → is_pinned (info_at parts.pages page) ≡ true
-each_pinned parts page pins stuck below = elim (stuck.fast page below) [
-  | inl pinned ↦ grind (arith, nat_tests)
-  | inr u ↦
-      let of_file = pins.of_files page (Anon u.slot u.index) u.tagged in
-      let bad : Anon u.slot u.index ≡ File of_file.0 of_file.1 = of_file.2 in absurd cc
-]
-
-pub no_page_legal : (g : GuestState) (v : StorageView) (d : DiskView) → Fit g v d → IsStuck g.parts
-    → HasNoPage g.plan (walk_of g.plan (start_of g.plan) g.journal) (pinned_count g.parts) (length g.parts.pages.infos - pinned_count g.parts)
-no_page_legal g v d f stuck =
-    let all = all_counted is_pinned free_info g.parts.pages.infos (λ page below. each_pinned g.parts page f.pins stuck below) in
-    record {
-      all_pages = omega (arith, count_by-le-length is_pinned g.parts.pages.infos, f.sizes.infos);
-      as_pinned = at_most-then (pinned_places g.parts f.pages f.pins) (pinned_rows (flat_of g.plan g.journal) g (length g.parts.maps.slots) f.slots f.teardowns);
-      as_anonymous = inl (omega (arith, all));
-    }

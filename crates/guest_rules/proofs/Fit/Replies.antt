@@ -1,5 +1,5 @@
 -- Fit after a reply: a refusal, the bytes of a read, a failure.
-use Rattle.std.proofs.Common.{◌≡◌, ◌/◌, ◌%◌, ℕ, List, take, drop, Some, refl, ap, sym, ◌∙◌, subst}
+use Rattle.std.proofs.Common.{◌≡◌, ◌/◌, ◌%◌, ℕ, List, take, drop, Some, ap, sym, ◌∙◌, subst}
 use Rattle.cmm_types.specs.declared.page.TheConstants.{PAGE}
 use Rattle.cmm_types.specs.declared.page.Tag.TheVariants.{File}
 use Rattle.cmm_types.specs.declared.command.Op.{Op}
@@ -25,7 +25,6 @@ use Rattle.guest_rules.specs.Turns.{refusal_in}
 use Rattle.guest_rules.specs.Fit.{FitAt, Fit, NeedsPage}
 use Rattle.guest_rules.specs.Answers.{FailCause}
 use Rattle.guest_rules.proofs.Cases.TurnCases.{Has, Starts, HasPage, GivenBack, IsRehinted}
-use Rattle.guest_rules.proofs.Cases.Commands.{command-built}
 use Rattle.guest_rules.proofs.Fit.FitEntered.{walk_at, Fit-entered}
 use Rattle.guest_rules.proofs.Cases.Refusals.{refusal-same, page-bytes}
 use Rattle.guest_rules.proofs.Cases.WantedTags.{read-piece}
@@ -46,7 +45,7 @@ Fit-stepped g v d cpu op reply later f has start step =
 pub refused-same : (g : GuestState) (v : StorageView) (d : DiskView) (cpu : ℕ) (op : Op) → Fit g v d → Has g cpu op
     → refusal_of (flat_of g.plan g.journal) (process_of g.plan cpu) op ≡ refusal_in g (process_of g.plan cpu) op
 refused-same g v d cpu op f has = refusal-same (flat_of g.plan g.journal) g (process_of g.plan cpu) op
-    (command-built g.plan cpu (processor_at g cpu).place op f.sizes.built has.command) f.slots f.flat.lengths
+    f.slots f.flat.lengths
 
 pub Fit-refused : (g : GuestState) (v : StorageView) (d : DiskView) (cpu : ℕ) (op : Op) (refusal : FlatRefusal) → Fit g v d → Has g cpu op → (processor_at g cpu).phase ≡ Start
     → refusal_in g (process_of g.plan cpu) op ≡ Some refusal → Fit (entered g cpu op (Refused refusal)) v d
@@ -72,8 +71,8 @@ Fit-read g v d w e cpu file off len page found all after f starts has back may a
     same : take len (drop (off % PAGE) all) ≡ bytes_at (file_at flat.files file) off len
     same =
         ap (λ b. take len (drop (off % PAGE) b))
-        (sym (found-bytes flat g v d page (File file (off / PAGE)) found all file (off / PAGE) f
-        (record { tagged = has.tagged; uptodate = f.locks.stale page (File file (off / PAGE)) has.tagged has.unlocked; may = may; are = are }) refl))
+        (sym (found-bytes flat g v d page (File file (off / PAGE)) found all f (f.pages.indexed page (File file (off / PAGE)) has.tagged).0
+        (record { tagged = has.tagged; uptodate = f.locks.stale page (File file (off / PAGE)) has.tagged has.unlocked; may = may; are = are })))
         ∙ page-bytes (file_at flat.files file) off len (read-piece g v d cpu file off len f.sizes starts.has).within_page
 
 -- a command that needs a page may fail by the disk or the pager

@@ -1,24 +1,28 @@
 -- Fit after a page was pinned, or unpinned.
-use Rattle.std.proofs.Common.{◌≡◌, ◌<◌, ℕ, Bool, true, false, length, Some, refl, ap, sym, ◌∙◌, arith}
+use Rattle.std.proofs.Common.{◌≡◌, ◌<◌, ℕ, Bool, true, false, length, Some, refl, ap, sym, ◌∙◌, inl, inr, subst, arith}
+use Rattle.std.proofs.lemmas.Bool.{cases_eq}
 use Rattle.cmm_types.specs.declared.page.Tag.{Tag}
 use Rattle.cmm_types.specs.declared.command.TheConstants.{MAX_MAPPING_PAGES}
 use Rattle.cmm_types.specs.declared.command.Op.{Op}
+use Rattle.cmm_types.specs.declared.command.Reply.{Reply}
 use Rattle.cmm_types.specs.declared.command.Reply.TheVariants.{Done}
 use Rattle.cmm_io.specs.DiskView.{DiskView}
+use Rattle.cmm_flat.specs.declared.mapping.Place.{Place}
 use Rattle.cmm_flat.specs.declared.mapping.Mapping.{Mapping}
 use Rattle.cmm_flat.specs.Mapping.{with_pin}
-use Rattle.cmm_flat.specs.State.{FlatState, mapping_at}
-use Rattle.cmm_flat.specs.Flat.{with_mapping, on_live, effect}
-use Rattle.cmm_flat.specs.Laws.StepLaws.{step_done}
+use Rattle.cmm_flat.specs.State.{FlatState, IsSound, mapping_at}
+use Rattle.cmm_flat.specs.Flat.{flat_step, with_mapping, on_live, effect}
+use Rattle.cmm_flat.specs.Laws.FlatLaws.{sound-flat_step}
+use Rattle.cmm_flat.specs.Laws.StepLaws.{step_done, mapping_at-with_mapping, mapping_at-with_mapping_other}
 use Rattle.cmm_flat.specs.Legal.{process_of, flat_of}
 use Rattle.essa_state.specs.PageValue.{PageValue, MayBecome}
 use Rattle.cmm_storage.specs.StorageView.{StorageView}
 use Rattle.guest_pages.specs.PagesView.{info_at}
 use Rattle.guest_maps.specs.MapsView.{find_slot}
 use Rattle.guest_rules.specs.declared.parts.Parts.{Parts}
-use Rattle.guest_rules.specs.GuestState.{GuestState, with_parts, entered}
+use Rattle.guest_rules.specs.GuestState.{GuestState, processor_at, with_parts, entered}
 use Rattle.guest_rules.specs.Rows.{pinned}
-use Rattle.guest_rules.specs.Fit.{Fit, flat_slot, flat_mapping, flat_found}
+use Rattle.guest_rules.specs.Fit.{Fit, own_bytes}
 use Rattle.guest_rules.proofs.Cases.TurnCases.{GivenBack, Starts, Wants, HasPage, IsRehinted, pin_op}
 use Rattle.guest_rules.proofs.Kept.Changes.{InfoChange}
 use Rattle.guest_rules.proofs.Kept.RowChanges.{pinned_info, change-pinned, only-pinned, maps-pinned}
@@ -26,9 +30,12 @@ use Rattle.guest_rules.proofs.Kept.PinLaws.{PinChange, change-with_pinned}
 use Rattle.guest_rules.proofs.Cases.Placed.{PinPlace, pin-place, pin-wants}
 use Rattle.guest_rules.proofs.Kept.SlotsKept.{SlotsFit-pinned, pinned_state, slot-below}
 use Rattle.guest_rules.proofs.Kept.EntriesKept.{EntriesFit-pinned}
-use Rattle.guest_rules.proofs.Kept.PinsKept.{PinsStand-pinned, standing}
+use Rattle.guest_rules.proofs.Kept.PinsKept.{PinsFit-pinned}
 use Rattle.guest_rules.proofs.Kept.TeardownsKept.{keeps_torn-pinned}
 use Rattle.guest_rules.proofs.Cases.MapsFound.{found_slot}
+use Rattle.guest_rules.proofs.Cases.Commands.{command-in_range}
+use Rattle.guest_rules.proofs.Kept.FlatTags.{KeepsOwn, FlatMapped, flat_mapped}
+use Rattle.guest_rules.proofs.Fit.FitMay.{infos-pages}
 use Rattle.guest_rules.proofs.Ready.Ready.{has_shows}
 use Rattle.guest_rules.proofs.Fit.StepTold.{Fit-told}
 use Rattle.guest_rules.proofs.Fit.Replies.{Fit-stepped, refused-same}
@@ -48,13 +55,18 @@ Fit-pinned g v d w e cpu pins number index slot tag page found after f starts wa
     Fit-stepped (with_parts g after) w e cpu op Done later
     (Fit-told flat later g v d w e page tag found middle after f (has_shows flat g v d page tag f has) back may (record {
       files = refl;
+      own = own;
+      sound = sound;
       only = only-pinned g.parts page slot index pins;
       change = record { size = change.size; here = refl; others = change.others };
-      keeps = rw change.here (record { tag = refl; uptodate = refl; dirty = refl; owner = refl });
-      slots = SlotsFit-pinned flat g.parts middle process number slot index pins f.slots place places change.size (ap (λ c. c.files) (only-pinned g.parts page slot index pins).cache);
+      keeps = rw change.here (record { tag = refl; uptodate = refl; dirty = λ e. e; owner = refl });
+      mappings = places.slots;
+      written = rw change.here (λ s i e some. f.tags.written page s i (rw (infos-pages g v d f.sizes) at has.below) e (inr some));
+      slots = SlotsFit-pinned flat g.parts middle process number slot index pins mapped.its f.slots place mapped.there places change.size
+          (ap (λ c. c.files) (only-pinned g.parts page slot index pins).cache);
       entries = EntriesFit-pinned g.parts middle page (pinned_info pins (info_at g.parts.pages page)) f.entries change places.slots places.entries (λ t a u. (a, u)) refl;
       torn = let its = found_slot g.parts.maps process number slot at in keeps_torn-pinned g.parts.maps middle.maps slot index pins its.mapping places its.at its.live;
-      pins = PinsStand-pinned g.parts middle page slot index pins tag (pinned_info pins (info_at g.parts.pages page)) (standing g.parts f.pins) f.pages (record {
+      pins = PinsFit-pinned g.parts middle page slot index pins tag (pinned_info pins (info_at g.parts.pages page)) f.pins f.pages (record {
         maps = places;
         cache = (only-pinned g.parts page slot index pins).cache;
         change = change;
@@ -71,9 +83,7 @@ Fit-pinned g v d w e cpu pins number index slot tag page found after f starts wa
     })
     told)
     (record { below = starts.has.below; command = starts.has.command }) starts.start
-    (step_done flat process op (refused-same g v d cpu op f starts.has ∙ starts.accepted)
-    ∙ effect-pin flat process pins number index
-    ∙ ap (λ o. on_live flat o (λ (m : Mapping). (with_mapping flat process number (with_pin m index pins), Done))) was)
+    step
   where
     flat : FlatState
     flat = flat_of g.plan g.journal
@@ -84,11 +94,14 @@ Fit-pinned g v d w e cpu pins number index slot tag page found after f starts wa
     op : Op
     op = pin_op pins number index
 
+    mapped : FlatMapped flat g.parts process number slot
+    mapped = flat_mapped flat g.parts process number slot f.slots at
+
     place : PinPlace g.parts.maps process number slot index pins
     place = pin-place g cpu pins number index slot starts at
 
     later : FlatState
-    later = pinned_state flat process number g.parts.maps slot place.mapping index pins
+    later = pinned_state flat process number mapped.its index pins
 
     middle : Parts
     middle = pinned g.parts page slot index pins
@@ -107,5 +120,25 @@ Fit-pinned g v d w e cpu pins number index slot tag page found after f starts wa
         rw (maps-pinned g.parts page slot index pins)
         (change-with_pinned g.parts.maps slot index (length g.parts.maps.slots) pins (slot-below g.parts.maps slot place.mapping place.at) few (rw f.slots.slots f.slots.pinned))
 
-    was : mapping_at flat process number ≡ Some (flat_slot g.parts.maps slot place.mapping)
-    was = f.slots.flat process number ∙ ap (flat_found g.parts.maps) at ∙ ap (flat_mapping g.parts.maps slot) place.at
+    step : flat_step flat process op ≡ (later, Done)
+    step =
+        step_done flat process op (refused-same g v d cpu op f starts.has ∙ starts.accepted)
+        ∙ effect-pin flat process pins number index
+        ∙ ap (λ o. on_live flat o (λ (m : Mapping). (with_mapping flat process number (with_pin m index pins), Done))) mapped.there
+
+    sound : IsSound later
+    sound = subst IsSound (ap (λ (out : FlatState × Reply). out.0) step)
+        (sound-flat_step flat process op (command-in_range g.plan cpu (processor_at g cpu).place op f.sizes.range starts.has.command) f.flat.sound)
+
+    own : KeepsOwn flat later
+    own p n = elim (cases_eq p process) [
+      | inl z ↦ elim (cases_eq n number) [
+        | inl y ↦ rw (z, y) (ap own_bytes (mapping_at-with_mapping flat process number (with_pin mapped.its index pins)) ∙ sym (ap own_bytes mapped.there))
+        | inr m ↦ ap own_bytes (other p n (λ q r. m r))
+      ]
+      | inr m ↦ ap own_bytes (other p n (λ q r. m q))
+    ]
+      where
+        other : (p n : ℕ) → (p ≡ process → n ≡ number → ⊥) → mapping_at later p n ≡ mapping_at flat p n
+        other p n differ =
+            mapping_at-with_mapping_other flat process number (with_pin mapped.its index pins) p n (λ e. differ (ap (λ (x : Place). x.process) e) (ap (λ (x : Place). x.map) e))

@@ -1,8 +1,8 @@
 -- Fit after a page was filled.
-use Rattle.std.proofs.Common.{◌≡◌, ◌<◌, ℕ, true, false, List, length, Some, refl, ap, sym, ◌∙◌, inl, arith}
+use Rattle.std.proofs.Common.{◌≡◌, ◌⊎◌, ◌<◌, ◌≤◌, ℕ, true, false, List, length, Some, refl, ap, sym, ◌∙◌, inl, inr, arith}
 use Rattle.cmm_types.specs.declared.page.Usage.TheVariants.{V}
 use Rattle.cmm_types.specs.declared.page.Tag.{Tag}
-use Rattle.cmm_types.specs.declared.page.Tag.TheVariants.{File}
+use Rattle.cmm_types.specs.declared.page.TheConstants.{PAGE}
 use Rattle.cmm_io.specs.DiskView.{DiskView}
 use Rattle.cmm_flat.specs.State.{FlatState}
 use Rattle.essa_state.specs.PageValue.{PageValue, Bytes}
@@ -24,27 +24,37 @@ use Rattle.guest_rules.proofs.Kept.LocksKept.{blocks-kept, LocksFit-released}
 use Rattle.guest_rules.proofs.Kept.SlotsKept.{SlotsFit-kept}
 use Rattle.guest_rules.proofs.Kept.EntriesKept.{EntriesFit-info}
 use Rattle.guest_rules.proofs.Kept.Unshown.{stale-unshown}
-use Rattle.guest_rules.proofs.Kept.PinsKept.{PinsStand-info, standing}
-use Rattle.guest_rules.proofs.Kept.TeardownsKept.{keeps_torn-same}
+use Rattle.guest_rules.proofs.Kept.PinsKept.{PinsFit-info}
+use Rattle.guest_rules.proofs.Kept.TeardownsKept.{keeps_torn-same, untagged-same}
+use Rattle.guest_rules.proofs.Kept.Backing.{length-backing}
 use Rattle.guest_rules.proofs.Kept.Unpinned.{stale-unpinned}
 use Rattle.guest_rules.proofs.Kept.CurrentsKept.{current-kept, FlatFit-same}
 use Rattle.guest_rules.proofs.Fit.FitMay.{infos-pages}
 use Rattle.guest_rules.proofs.Fit.FitChanged.{TableStep, step-same, FitAt-step}
 
 -- a page that has the bytes of its tag
-PageFits-filled : (g : GuestState) (d : DiskView) (info : PageInfo) (tag : Tag) (file index : ℕ) (value : PageValue) → info.tag ≡ Some tag → tag ≡ File file index → info.pins ≡ 0
+PageFits-filled : (g : GuestState) (d : DiskView) (info : PageInfo) (tag : Tag) (value : PageValue) → info.tag ≡ Some tag → info.pins ≡ 0
     → info.writers ≡ 0 → info.dirty ≡ false
-    → value.usage ≡ V → value.changed ≡ false → value.contents ≡ Bytes (backing g.parts.cache d tag) → PageFits g.parts.cache d (filled_info info) value
+    → value.usage ≡ V → value.changed ≡ false → value.contents ≡ Bytes (backing g.parts.cache d tag) → length (backing g.parts.cache d tag) ≡ PAGE → PageFits g.parts.cache d (filled_info info) value
 unfolding hint
-PageFits-filled g d info tag file index value tagged is pins writers dirty usage changed contents = record {
-  of_files = λ t e. (file, index, same t e ∙ is);
+PageFits-filled g d info tag value tagged pins writers dirty usage changed contents all_of = record {
   is_value = rw contents tt;
   hinted = rw (usage, tagged, dirty, pins, writers) refl;
   volatile = λ u. changed;
+  unused = λ u. changed;
+  whole = λ t all e u are. let both : Bytes (backing g.parts.cache d tag) ≡ Bytes all = sym contents ∙ are in ap length (bytes_exact (sym both)) ∙ all_of;
+  written = λ slot index e some. absurd (never_written some);
   not_blank = λ t e u. rw contents refl;
   same = λ t e u clean unchanged there. contents ∙ ap (λ (x : Tag). Bytes (backing g.parts.cache d x)) (sym (same t e));
 }
   where
+    bytes_exact : {a b : List ℕ} → Bytes a ≡ Bytes b → a ≡ b
+    bytes_exact e = cc
+
+    never_written : (value.changed ≡ true) ⊎ (1 ≤ info.writers) → ⊥
+    never_written (inl is) = let bad : false ≡ true = sym changed ∙ is in cc
+    never_written (inr some) = omega (arith, some, writers)
+
     same : (t : Tag) → info.tag ≡ Some t → t ≡ tag
     same t e = let both : Some t ≡ Some tag = sym e ∙ tagged in cc
 
@@ -65,7 +75,7 @@ Fit-filled state g v d w e cpu page tag f below phase tagged back value =
     (EntriesFit-info g.parts h.parts page (filled_info (info_at g.parts.pages page)) f.entries change refl (λ t t_is u. (t_is, refl)) refl)
     (LocksFit-released g h cpu page (filled_info (info_at g.parts.pages page)) f.locks refl change phases refl (inl phase) (record { clean = λ u. clean; stale = λ t k none. refl })
     (blocks-kept g.parts.cache h.parts.cache refl))
-    (FlatFit-same state g h v w d e f.flat refl refl refl (current-kept g.parts h.parts v w d e page
+    (FlatFit-same state g h v w d e f.flat refl refl refl refl (current-kept g.parts h.parts v w d e page
     (step-same state g v d h w e cpu page Start (filled_info (info_at g.parts.pages page)) f step) refl here))
     (record {
       handled = omega arith;
@@ -86,9 +96,6 @@ Fit-filled state g v d w e cpu page tag f below phase tagged back value =
 
     clean : (info_at g.parts.pages page).dirty ≡ false
     clean = f.locks.stale_clean page stale
-
-    of_file : (file : ℕ) × (index : ℕ) × (tag ≡ File file index)
-    of_file = f.pins.of_files page tag tagged
 
     change : InfoChange g.parts.pages (filled g.parts page).pages page (filled_info (info_at g.parts.pages page))
     change = change-filled g.parts page within
@@ -119,8 +126,11 @@ Fit-filled state g v d w e cpu page tag f below phase tagged back value =
       info_change = change;
       phase_change = phases;
       torn = keeps_torn-same g.parts.maps g.parts.maps refl;
-      pins = PinsStand-info g.parts h.parts page (filled_info (info_at g.parts.pages page)) (standing g.parts f.pins) change refl (record { slots = refl; pinned = refl }) refl refl (λ u. refl);
-      fits = PageFits-filled g d (info_at g.parts.pages page) tag of_file.0 of_file.1 (w.values page) tagged of_file.2 (stale-unpinned g.parts page tag f.pins f.pages tagged stale)
+      untagged = untagged-same g.parts g.parts.cache refl;
+      mappings = refl;
+      used = λ t k. f.tags.pages page t k;
+      pins = PinsFit-info g.parts h.parts page (filled_info (info_at g.parts.pages page)) f.pins change refl (record { slots = refl; pinned = refl }) refl refl (λ u. refl);
+      fits = PageFits-filled g d (info_at g.parts.pages page) tag (w.values page) tagged (stale-unpinned g.parts page tag f.pins f.pages tagged stale)
           (stale-unshown g.parts page f.entries stale) clean
-          (ap (λ (x : PageValue). x.usage) value) (ap (λ (x : PageValue). x.changed) value) contents;
+          (ap (λ (x : PageValue). x.usage) value) (ap (λ (x : PageValue). x.changed) value) contents (length-backing g v d tag f.sizes f.contents (f.pages.indexed page tag tagged).0);
     }

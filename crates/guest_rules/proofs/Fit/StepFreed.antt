@@ -1,12 +1,18 @@
 -- Fit after a page with a tag was freed: handled after a discard, given up after a failure, or clean where room is made.
-use Rattle.std.proofs.Common.{◌≡◌, ◌<◌, ◌≤◌, ◌+◌, ℕ, true, false, length, Some, None, refl, ap, sym, ◌∙◌, inl, subst, arith}
+use Rattle.std.proofs.Common.{◌≡◌, ◌<◌, ◌≤◌, ◌+◌, ℕ, true, false, length, Some, None, refl, ap, sym, ◌∙◌, inl, inr, subst, position, arith}
 use Rattle.cmm_types.specs.declared.page.Tag.{Tag}
+use Rattle.cmm_types.specs.declared.page.Tag.TheVariants.{Anon}
+use Rattle.cmm_types.specs.declared.command.TheConstants.{MAX_MAPPING_PAGES}
 use Rattle.cmm_io.specs.DiskView.{DiskView}
 use Rattle.cmm_flat.specs.State.{FlatState}
 use Rattle.essa_state.specs.PageValue.{PageValue, Contents, Bytes, Blank, Lost, IsMadeUnused, MayBecome, is_lost}
 use Rattle.cmm_storage.specs.StorageView.{StorageView}
 use Rattle.guest_pages.specs.PagesView.{PagesView, info_at, free_info}
-use Rattle.guest_maps.specs.MapsView.{MapsView, without_entries_of}
+use Rattle.guest_maps.specs.MapsView.{MapsView, slot_at, pinned_at, tag_of, without_entries_of}
+use Rattle.guest_maps.specs.declared.slot.Slot.{Slot}
+use Rattle.guest_maps.specs.declared.slot.Shown.{Shown}
+use Rattle.guest_maps.specs.declared.slot.Shown.TheVariants.{File as OfFile, Anon as OfItsOwn}
+use Rattle.guest_cache.specs.CacheView.{page_of, holds_page}
 use Rattle.guest_maps.specs.Laws.MapsLaws.{slots-without_entries_of, pinned-without_entries_of, pages-without_entries_of}
 use Rattle.guest_rules.specs.declared.processor.Phase.{Phase}
 use Rattle.guest_rules.specs.declared.processor.Phase.TheVariants.{Start, Fill}
@@ -14,10 +20,10 @@ use Rattle.guest_rules.specs.GuestState.{GuestState, processor_at, with_parts, w
 use Rattle.guest_rules.specs.Rows.{freed, handled}
 use Rattle.guest_rules.specs.MakeRoom.{behind}
 use Rattle.guest_rules.specs.declared.parts.Parts.{Parts}
-use Rattle.guest_rules.specs.Fit.{LocksFit, FitAt, backing, current_bytes, one_if_lost}
+use Rattle.guest_rules.specs.Fit.{LocksFit, FitAt, IsFlatTag, backing, current_bytes, one_if_lost}
 use Rattle.guest_rules.proofs.Cases.TurnCases.{GivenBack, HasPage}
 use Rattle.guest_rules.proofs.Rows.ValueLaws.{may-faults, lost_of}
-use Rattle.guest_rules.proofs.Kept.Changes.{InfoChange, IndexChange, PhaseChange, teardown_of, change-without_page, change-with_phase, change-nothing}
+use Rattle.guest_rules.proofs.Kept.Changes.{InfoChange, IndexChange, PhaseChange, teardown_of, change-without_page, change-with_phase, change-nothing, cases_tag}
 use Rattle.guest_rules.proofs.Kept.RowChanges.{change-freed, freed-free, freed-cache, freed-faults, freed-maps, handled-pages, handled-cache, handled-maps}
 use Rattle.guest_rules.proofs.Kept.PageFits.{PageFits, PageFits-free, PageFits-may, EachPageFits-from}
 use Rattle.guest_rules.proofs.Kept.Currents.{current_bytes-may, current_bytes-stale, current_bytes-lost}
@@ -25,8 +31,11 @@ use Rattle.guest_rules.proofs.Kept.PagesKept.{PagesFit-freed}
 use Rattle.guest_rules.proofs.Kept.LocksKept.{KeepsBlocks, blocks-same, LockInfo, LocksFit-released, LocksFit-unlocked}
 use Rattle.guest_rules.proofs.Kept.EntryLaws.{length-without}
 use Rattle.guest_rules.proofs.Kept.SlotsKept.{SlotsFit-kept}
-use Rattle.guest_rules.proofs.Kept.PinsKept.{SamePlaces, PinsStand-freed, standing}
+use Rattle.guest_rules.proofs.Kept.PinsKept.{SamePlaces, PinsFit-freed}
 use Rattle.guest_rules.proofs.Kept.TeardownsKept.{KeepsTorn, keeps_torn-without}
+use Rattle.guest_rules.proofs.Kept.FlatTags.{own-is_tag, never_live}
+use Rattle.guest_rules.proofs.Kept.PinLaws.{pins_within-none}
+use Rattle.guest_rules.proofs.Cases.WantedTags.{shows_at}
 use Rattle.guest_rules.proofs.Kept.Unpinned.{stale-unpinned, lost-unpinned}
 use Rattle.guest_rules.proofs.Kept.EntriesKept.{EntriesFit-freed}
 use Rattle.guest_rules.proofs.Kept.CurrentsKept.{current-freed, FlatFit-same}
@@ -40,7 +49,8 @@ Fit-freed : (state : FlatState) (g : GuestState) (v : StorageView) (d : DiskView
     → h.parts.maps ≡ (freed g.parts page).maps
     → PhaseChange g.processors h.processors cpu phase_after → PageFits g.parts.cache d free_info (w.values page)
     → (InfoChange g.parts.pages h.parts.pages page free_info → KeepsBlocks g.parts.cache h.parts.cache → LocksFit h)
-    → current_bytes (info_at g.parts.pages page).uptodate (v.values page).contents (backing g.parts.cache d tag) ≡ backing g.parts.cache d tag → (info_at g.parts.pages page).pins ≡ 0
+    → (IsFlatTag g.parts tag → current_bytes (info_at g.parts.pages page).uptodate (v.values page).contents (backing g.parts.cache d tag) ≡ backing g.parts.cache d tag)
+    → (info_at g.parts.pages page).pins ≡ 0
     → FaultStep more g v h w page → FitAt state h w e
 Fit-freed state g v d h w e cpu page more phase_after tag f back within tagged plan journal pages cache maps phase fits locks behind unpinned faults =
     FitAt-step state state g v d h w e cpu page more phase_after free_info f step
@@ -49,7 +59,7 @@ Fit-freed state g v d h w e cpu page more phase_after tag f back within tagged p
     (ap (λ (m : MapsView). m.pages) without ∙ pages-without_entries_of g.parts.maps page) change.size index.files)
     (EntriesFit-freed g.parts h.parts page f.entries change without)
     (locks change (blocks-same g.parts.cache h.parts.cache index.files index.swap))
-    (FlatFit-same state g h v w d e f.flat plan index.files index.slots
+    (FlatFit-same state g h v w d e f.flat plan index.files index.slots places.slots
     (current-freed g.parts h.parts v w d e page tag (step-same state g v d h w e cpu page phase_after free_info f step) index tagged behind)) faults
   where
     index : IndexChange g.parts.cache h.parts.cache tag None
@@ -80,7 +90,16 @@ Fit-freed state g v d h w e cpu page more phase_after tag f back within tagged p
       info_change = change;
       phase_change = phase;
       torn = subst (KeepsTorn g.parts.maps) (sym without) (keeps_torn-without g.parts.maps page);
-      pins = PinsStand-freed state g.parts h.parts page tag (standing g.parts f.pins) f.pages f.slots tagged unpinned change index places;
+      untagged = λ s i mapping at torn below was. (
+        elim (cases_tag (Anon s i) tag) [
+          | inl z ↦ ap (page_of h.parts.cache) z ∙ index.here
+          | inr n ↦ index.others (Anon s i) (own-is_tag state g v d f.sizes f.slots s i mapping at below) n ∙ was.0
+        ],
+        ap (λ tags. position (holds_page s i) tags) index.swap ∙ was.1,
+      );
+      mappings = places.slots;
+      used = λ t e. let bad : None ≡ Some t = e in absurd cc;
+      pins = PinsFit-freed state g.parts h.parts page tag f.pins f.pages f.slots f.sizes.slots tagged unpinned change index places;
       fits = fits;
     }
 
@@ -112,7 +131,7 @@ Fit-gone state g v d w e tag page found f has back may lost unused =
     Fit-freed state g v d (with_parts g (handled g.parts page)) w e 0 page 1 (processor_at g 0).phase tag f back has.below has.tagged refl refl (handled-pages g.parts page)
     (handled-cache g.parts page) (handled-maps g.parts page)
     (change-nothing g.processors 0 (processor_at g 0).phase refl) (PageFits-unused g d found (w.values page) unused)
-    (λ change blocks. LocksFit-unlocked g (with_parts g (handled g.parts page)) page free_info f.locks refl refl change has.unlocked refl free_lock blocks) behind
+    (λ change blocks. LocksFit-unlocked g (with_parts g (handled g.parts page)) page free_info f.locks refl refl change has.unlocked refl free_lock blocks) (λ flat. behind)
     (lost-unpinned state g v d page tag found f has.below has.tagged may lost)
     (record {
       handled = handled-faults g page;
@@ -121,7 +140,7 @@ Fit-gone state g v d w e tag page found f has back may lost unused =
     })
   where
     fits : PageFits g.parts.cache d (info_at g.parts.pages page) (v.values page)
-    fits = (EachPageFits-from g.parts v d (infos-pages g v d f.sizes) f.pins f.hints f.contents).each page (rw (infos-pages g v d f.sizes) at has.below)
+    fits = (EachPageFits-from g.parts v d (infos-pages g v d f.sizes) f.tags f.hints f.contents).each page (rw (infos-pages g v d f.sizes) at has.below)
 
     behind : current_bytes (info_at g.parts.pages page).uptodate (v.values page).contents (backing g.parts.cache d tag) ≡ backing g.parts.cache d tag
     behind =
@@ -154,7 +173,7 @@ Fit-cleared state g v d w e tag page found f has unpinned back may there unchang
     Fit-freed state g v d (with_parts g after) w e 0 page 0 (processor_at g 0).phase tag f back has.below has.tagged refl refl (behind-pages (freed g.parts page) page)
     (behind-cache (freed g.parts page) page) (behind-maps (freed g.parts page) page)
     (change-nothing g.processors 0 (processor_at g 0).phase refl) (PageFits-unused g d found (w.values page) unused)
-    (λ change blocks. LocksFit-unlocked g (with_parts g after) page free_info f.locks refl refl change has.unlocked refl free_lock blocks) backed unpinned
+    (λ change blocks. LocksFit-unlocked g (with_parts g after) page free_info f.locks refl refl change has.unlocked refl free_lock blocks) (λ flat. backed) unpinned
     (record {
       handled = omega (arith, behind-faults (freed g.parts page) page, freed-faults g.parts page);
       counted = omega (arith, may-faults (v.values page) found may, unused-kept found (w.values page) unused, unused.count);
@@ -167,7 +186,7 @@ Fit-cleared state g v d w e tag page found f has unpinned back may there unchang
     uptodate = f.locks.stale page tag has.tagged has.unlocked
 
     fits : PageFits g.parts.cache d (info_at g.parts.pages page) (v.values page)
-    fits = (EachPageFits-from g.parts v d (infos-pages g v d f.sizes) f.pins f.hints f.contents).each page (rw (infos-pages g v d f.sizes) at has.below)
+    fits = (EachPageFits-from g.parts v d (infos-pages g v d f.sizes) f.tags f.hints f.contents).each page (rw (infos-pages g v d f.sizes) at has.below)
 
     -- the page has what its block has
     same : found.contents ≡ Bytes (backing g.parts.cache d tag)
@@ -178,6 +197,35 @@ Fit-cleared state g v d w e tag page found f has unpinned back may there unchang
         sym (current_bytes-may g.parts.cache d (info_at g.parts.pages page) (v.values page) found tag fits has.tagged may)
         ∙ ap (λ u. current_bytes u found.contents (backing g.parts.cache d tag)) uptodate
         ∙ ap (λ c. current_bytes true c (backing g.parts.cache d tag)) same
+
+-- nothing that is pinned maps a page of a mapping that is torn down
+torn-unpinned : (state : FlatState) (g : GuestState) (v : StorageView) (d : DiskView) (page slot index : ℕ) (mapping : Slot) → FitAt state g v d → slot_at g.parts.maps slot ≡ Some mapping
+    → mapping.live ≡ false → (info_at g.parts.pages page).tag ≡ Some (Anon slot index) → (info_at g.parts.pages page).pins ≡ 0
+torn-unpinned state g v d page slot index mapping f at torn tagged =
+    f.pins.counted page (Anon slot index) tagged
+    ∙ pins_within-none g.parts.maps (Anon slot index) (length g.parts.maps.slots) MAX_MAPPING_PAGES
+    (λ s i lt pinned mapped.
+    let k = shows_at state g.parts s i (Anon slot index) f.slots mapped in
+    let same : slot ≡ s = own_slot k.mapping.shown s i slot index k.is in
+    let bad : false ≡ true = sym (f.teardowns.unpinned slot i mapping at torn lt) ∙ ap (λ x. pinned_at g.parts.maps x i) same ∙ pinned in cc)
+  where
+    own_slot : (shown : Shown) (s i slot index : ℕ) → Anon slot index ≡ tag_of shown s i → slot ≡ s
+    own_slot (OfFile file first writable) s i slot index e = absurd (cc e)
+    own_slot OfItsOwn s i slot index e = cc
+
+-- a page is taken off a mapping of pages of its own that is torn down: its bytes go with it
+pub Fit-torn_off : (state : FlatState) (g : GuestState) (v : StorageView) (d : DiskView) (w : StorageView) (e : DiskView) (slot index page : ℕ) (mapping : Slot) (found : PageValue)
+    → FitAt state g v d → slot_at g.parts.maps slot ≡ Some mapping → mapping.live ≡ false → HasPage g (Anon slot index) page → GivenBack page v d w e → MayBecome (v.values page) found
+    → IsMadeUnused found (w.values page) → FitAt state (with_parts g (freed g.parts page)) w e
+Fit-torn_off state g v d w e slot index page mapping found f at torn has back may unused =
+    Fit-freed state g v d (with_parts g (freed g.parts page)) w e 0 page 0 (processor_at g 0).phase (Anon slot index) f back has.below has.tagged refl refl refl refl refl
+    (change-nothing g.processors 0 (processor_at g 0).phase refl) (PageFits-unused g d found (w.values page) unused)
+    (λ change blocks. LocksFit-unlocked g (with_parts g (freed g.parts page)) page free_info f.locks refl refl change has.unlocked refl free_lock blocks)
+    (λ flat. absurd (never_live g.parts slot index mapping at torn flat)) (torn-unpinned state g v d page slot index mapping f at torn has.tagged)
+    (record {
+      handled = omega (arith, freed-faults g.parts page);
+      counted = omega (arith, may-faults (v.values page) found may, unused-kept found (w.values page) unused, unused.count);
+    })
 
 -- a page that couldn't be filled is free, and its processor is in phase Start
 pub Fit-given_up : (state : FlatState) (g : GuestState) (v : StorageView) (d : DiskView) (w : StorageView) (e : DiskView) (cpu page : ℕ) → FitAt state g v d → cpu < length g.processors
@@ -192,6 +240,6 @@ Fit-given_up state g v d w e cpu page f below phase back unused =
     (PageFits-unused g d (v.values page) (w.values page) unused)
     (λ change blocks. LocksFit-released g (with_phase (with_parts g (freed g.parts page)) cpu Start) cpu page free_info f.locks refl change phases refl
     (inl phase) free_lock blocks)
-    (current_bytes-stale (info_at g.parts.pages page).uptodate (v.values page).contents (backing g.parts.cache d k.tag) k.stale)
+    (λ flat. current_bytes-stale (info_at g.parts.pages page).uptodate (v.values page).contents (backing g.parts.cache d k.tag) k.stale)
     (stale-unpinned g.parts page k.tag f.pins f.pages k.tagged k.stale)
     (record { handled = omega (arith, freed-faults g.parts page); counted = omega (arith, unused-kept (v.values page) (w.values page) unused, unused.count) })

@@ -1,5 +1,5 @@
 -- Fit after a page was locked by a processor to be written back, or unlocked again.
-use Rattle.std.proofs.Common.{◌≡◌, ◌<◌, ℕ, Bool, true, false, List, length, Some, None, refl, ap, sym, ◌∙◌, inl, subst, arith}
+use Rattle.std.proofs.Common.{◌≡◌, ◌<◌, ℕ, Bool, true, false, List, length, Some, None, refl, ap, sym, ◌∙◌, inl, inr, subst, arith}
 use Rattle.cmm_types.specs.declared.page.Usage.{Usage}
 use Rattle.cmm_types.specs.declared.page.Usage.TheVariants.{S}
 use Rattle.cmm_types.specs.declared.page.Tag.{Tag}
@@ -9,7 +9,7 @@ use Rattle.essa_state.specs.PageValue.{PageValue, Bytes, MayBecome, is_lost}
 use Rattle.cmm_storage.specs.StorageView.{StorageView}
 use Rattle.guest_pages.specs.declared.info.PageInfo.{PageInfo}
 use Rattle.guest_pages.specs.PagesView.{info_at}
-use Rattle.guest_cache.specs.CacheView.{CacheView}
+use Rattle.guest_cache.specs.CacheView.{CacheView, backing_of}
 use Rattle.guest_rules.specs.declared.parts.Parts.{Parts}
 use Rattle.guest_rules.specs.declared.processor.Phase.{Phase}
 use Rattle.guest_rules.specs.declared.processor.Phase.TheVariants.{Start}
@@ -34,9 +34,10 @@ use Rattle.guest_rules.proofs.Kept.CurrentsKept.{current-kept, FlatFit-same}
 use Rattle.guest_rules.proofs.Fit.FitMay.{infos-pages}
 use Rattle.guest_rules.proofs.Fit.FitChanged.{TableStep, step-same, FitAt-step}
 use Rattle.guest_rules.proofs.Fit.FoundBytes.{found-fits}
-use Rattle.guest_rules.proofs.Kept.PinsKept.{PinsStand-info, standing}
-use Rattle.guest_rules.proofs.Kept.TeardownsKept.{locked-tears_nothing, keeps_torn-same}
-use Rattle.guest_rules.proofs.Fit.StepTold.{IsChanged, is_changed, not_lost, PageFits-settled}
+use Rattle.guest_rules.proofs.Kept.PinsKept.{PinsFit-info}
+use Rattle.guest_rules.proofs.Kept.TeardownsKept.{locked-tears_nothing, keeps_torn-same, untagged-same}
+use Rattle.guest_rules.proofs.Kept.SwapLaws.{has_block-slot}
+use Rattle.guest_rules.proofs.Fit.StepTold.{IsChanged, IsWrittenBy, is_changed, not_lost, written_by-changed, PageFits-settled}
 use Rattle.guest_rules.proofs.Fit.FitBlock.{WritesBytes, backing-written, FitAt-block}
 use Rattle.guest_rules.proofs.Ready.Ready.{hint_locked, has_shows}
 
@@ -59,6 +60,7 @@ pub record IsSettled (g : GuestState) (v : StorageView) (d : DiskView) (w : Stor
   pub same : SamePage (info_at g.parts.pages page) new
   pub writers : new.writers ≡ (info_at g.parts.pages page).writers
   pub clean : new.dirty ≡ false → found.contents ≡ Bytes (backing g.parts.cache d tag)
+  pub written : IsWrittenBy g.parts.cache new
 
 Fit-settled : (state : FlatState) (g : GuestState) (v : StorageView) (d : DiskView) (w : StorageView) (e : DiskView) (cpu page : ℕ) (phase : Phase) (tag : Tag) (found : PageValue) (after : Parts)
     (new : PageInfo) → FitAt state g v d
@@ -72,7 +74,7 @@ Fit-settled state g v d w e cpu page phase tag found after new f below teardown 
     (ap (λ (c : CacheView). c.files) s.only.cache))
     (EntriesFit-info g.parts after page new f.entries s.change s.maps (λ t t_is u. (s.same.tag ∙ t_is, s.same.uptodate ∙ u)) s.writers)
     locks
-    (FlatFit-same state g h v w d e f.flat refl (ap (λ (c : CacheView). c.files) s.only.cache) (ap (λ (c : CacheView). c.slots) s.only.cache)
+    (FlatFit-same state g h v w d e f.flat refl (ap (λ (c : CacheView). c.files) s.only.cache) (ap (λ (c : CacheView). c.slots) s.only.cache) (ap (λ m. m.slots) s.maps)
     (current-kept g.parts after v w d e page (step-same state g v d h w e cpu page phase new f step) s.only.cache here))
     (record { handled = omega (arith, s.only.faults); counted = rw s.value (omega (arith, may-faults (v.values page) found s.may, not_lost found.contents found refl s.there)) })
   where
@@ -103,10 +105,13 @@ Fit-settled state g v d w e cpu page phase tag found after new f below teardown 
       info_change = s.change;
       phase_change = change-with_phase g.processors cpu phase below teardown;
       torn = keeps_torn-same g.parts.maps after.maps s.maps;
-      pins = PinsStand-info g.parts after page new (standing g.parts f.pins) s.change s.only.cache
+      untagged = untagged-same g.parts after.cache s.only.cache;
+      mappings = ap (λ m. m.slots) s.maps;
+      used = λ t e. f.tags.pages page t (sym s.same.tag ∙ e);
+      pins = PinsFit-info g.parts after page new f.pins s.change s.only.cache
           (record { slots = ap (λ m. m.slots) s.maps; pinned = ap (λ m. m.pinned) s.maps }) s.same.tag s.same.pins (λ u. s.same.uptodate ∙ u);
       fits = rw s.value (PageFits-settled g.parts.cache d (info_at g.parts.pages page) new found tag
-          (PageFits-may g.parts.cache d (info_at g.parts.pages page) (v.values page) found before s.may) s.same.tag s.shows.tagged s.shows.uptodate s.there s.clean);
+          (PageFits-may g.parts.cache d (info_at g.parts.pages page) (v.values page) found before s.may) s.same.tag s.shows.tagged s.shows.uptodate s.there s.clean s.written);
     }
 
 -- one change of the tables after another
@@ -136,6 +141,7 @@ Fit-locked state g v d w e cpu page phase tag found f below none teardown has ba
       same = record { tag = is.tag; uptodate = is.uptodate; pins = is.pins };
       writers = is.writers;
       clean = λ c. let bad : true ≡ false = sym dirty ∙ c in absurd cc;
+      written = λ slot index e some. inl dirty;
     })
     (LocksFit-step g h cpu page phase new f.locks (record {
       plan = refl;
@@ -202,6 +208,7 @@ record IsReleased (g : GuestState) (page : ℕ) (middle : Parts) (dirty : Bool) 
   writers : (info_at middle.pages page).writers ≡ (info_at g.parts.pages page).writers
   unlocked_now : (info_at middle.pages page).owner ≡ None
   kept : (info_at middle.pages page).dirty ≡ dirty
+  written : IsWrittenBy g.parts.cache (info_at middle.pages page)
 
 -- its hint was told again; where it is clean its bytes are those that back its tag
 Fit-released : (state : FlatState) (g : GuestState) (v : StorageView) (d : DiskView) (w : StorageView) (e : DiskView) (cpu page : ℕ) (tag : Tag) (middle after : Parts) (dirty : Bool)
@@ -225,6 +232,7 @@ Fit-released state g v d w e cpu page tag middle after dirty f k back r told cle
       same = record { tag = is.tag ∙ r.same.tag; uptodate = is.uptodate ∙ r.same.uptodate; pins = is.pins ∙ r.same.pins };
       writers = is.writers ∙ r.writers;
       clean = λ c. let both = is.clean c in clean (sym r.kept ∙ both.0) both.1;
+      written = written_by-changed g.parts.cache (info_at middle.pages page) changed r.written;
     })
     locks)
   where
@@ -258,6 +266,9 @@ Fit-released state g v d w e cpu page tag middle after dirty f k back r told cle
         (record { clean = λ u. let bad : true ≡ false = sym uptodate ∙ u in absurd cc; stale = λ t e none. uptodate })
         (blocks-kept g.parts.cache last.cache ((only-changed middle page changed).cache ∙ r.only.cache))
 
+tag_exact : {a b : Tag} → Some a ≡ Some b → a ≡ b
+tag_exact e = cc
+
 -- a page was written to its block
 pub Fit-written_back : (state : FlatState) (g : GuestState) (v : StorageView) (d : DiskView) (w : StorageView) (e : DiskView) (cpu page : ℕ) (tag : Tag) (bytes : List ℕ) (after : Parts)
     → FitAt state g v d → HoldsPage g cpu page tag
@@ -274,9 +285,13 @@ Fit-written_back state g v d w e cpu page tag bytes after f k are wrote told =
       writers = ap (λ (i : PageInfo). i.writers) change.here;
       unlocked_now = ap (λ (i : PageInfo). i.owner) change.here;
       kept = ap (λ (i : PageInfo). i.dirty) change.here;
+      written = λ slot index e some. inr (has_block-slot g.parts.cache slot index wrote.block (block_of (ap (λ (i : PageInfo). i.tag) (sym change.here) ∙ e)));
     })
     told (λ clean unchanged. are ∙ ap (λ b. Bytes b) (sym (backing-written state g v d e page tag wrote.block bytes f writes)))
   where
+    block_of : {t : Tag} → (info_at g.parts.pages page).tag ≡ Some t → backing_of g.parts.cache t ≡ Some wrote.block
+    block_of e = let both : Some _ ≡ Some tag = sym e ∙ k.shows.tagged in ap (backing_of g.parts.cache) (tag_exact both) ∙ wrote.backs
+
     writes : WritesBytes g v d e page tag wrote.block bytes
     writes = record { tagged = k.shows.tagged; uptodate = k.shows.uptodate; are = are; backs = wrote.backs; count = wrote.count; blocks = wrote.blocks }
 
@@ -297,6 +312,7 @@ Fit-not_written state g v d w e cpu page tag after f k back told =
       writers = ap (λ (i : PageInfo). i.writers) change.here;
       unlocked_now = ap (λ (i : PageInfo). i.owner) change.here;
       kept = ap (λ (i : PageInfo). i.dirty) change.here;
+      written = rw change.here (λ slot index e some. f.tags.written page slot index (rw (infos-pages g v d f.sizes) at k.shows.below) e (inr some));
     })
     told (λ clean unchanged. (found-fits state g v d page tag f k.shows.tagged).same tag k.shows.tagged k.shows.uptodate clean unchanged told.there)
   where

@@ -1,8 +1,9 @@
 -- Fit after a page was taken off a mapping that is torn down: its entry is cleared, and the unmap goes on behind it.
-use Rattle.std.proofs.Common.{◌≡◌, ◌<◌, ◌≤◌, ◌+◌, ℕ, true, false, set, length, Option, Some, None, refl, ap, sym, ◌∙◌, inl, inr, subst, arith}
+use Rattle.std.proofs.Common.{◌≡◌, ◌≢◌, ◌<◌, ◌≤◌, ◌+◌, ◌-◌, ℕ, true, false, set, length, Option, Some, None, refl, ap, sym, ◌∙◌, inl, inr, subst, arith}
 use Rattle.std.proofs.lemmas.Bool.{cases_eq, cases_lt, ltb-true}
 use Rattle.std.proofs.lemmas.List.Sums.{sum_by-set}
 use Rattle.cmm_types.specs.declared.page.Tag.{Tag}
+use Rattle.cmm_types.specs.declared.page.Tag.TheVariants.{File, Anon}
 use Rattle.cmm_types.specs.declared.command.TheConstants.{MAX_MAPPING_PAGES}
 use Rattle.cmm_types.specs.declared.turn.Turn.{Turn}
 use Rattle.cmm_io.specs.DiskView.{DiskView}
@@ -12,7 +13,9 @@ use Rattle.essa_state.specs.PageValue.{PageValue, MayBecome}
 use Rattle.cmm_storage.specs.StorageView.{StorageView}
 use Rattle.guest_pages.specs.PagesView.{info_at}
 use Rattle.guest_maps.specs.declared.slot.Pte.{Pte}
-use Rattle.guest_maps.specs.MapsView.{MapsView, slot_at, slot_has_page, entry_at, pinned_at, with_entry, freed_slot}
+use Rattle.guest_maps.specs.declared.slot.Slot.{Slot}
+use Rattle.guest_maps.specs.MapsView.{MapsView, slot_at, is_live_slot, slot_has_page, entry_at, pinned_at, with_entry, freed_slot}
+use Rattle.guest_maps.specs.Laws.TornLaws.{slot_at-freed_slot_same, slot_at-freed_slot_other}
 use Rattle.guest_maps.specs.Laws.MapsLaws.{slots-with_entry, pinned-with_entry, pages-with_entry}
 use Rattle.guest_rules.specs.declared.parts.Parts.{Parts}
 use Rattle.guest_rules.specs.declared.processor.Phase.TheVariants.{Start, Teardown}
@@ -20,7 +23,7 @@ use Rattle.guest_rules.specs.declared.processor.Processor.{Processor}
 use Rattle.guest_rules.specs.GuestState.{GuestState, first_processor, processor_at, with_parts, with_phase, next_command}
 use Rattle.guest_rules.specs.Rows.{unmapped}
 use Rattle.guest_rules.specs.Turns.{mapping_pages}
-use Rattle.guest_rules.specs.Fit.{SlotsFit, EntriesFit, IsTearing, JournalFit, FitAt, Fit, answered_early, entries_of}
+use Rattle.guest_rules.specs.Fit.{SlotsFit, EntriesFit, IsTearing, JournalFit, FitAt, Fit, IsOwnPage, IsUsedTag, answered_early, entries_of, own_pages}
 use Rattle.guest_rules.proofs.Cases.TurnCases.{GivenBack, ShowsPage, IsRehinted}
 use Rattle.guest_rules.proofs.Cases.TornPast.{HasTornPast, tears_on, has_ended}
 use Rattle.guest_rules.proofs.Kept.Changes.{InfoChange}
@@ -28,14 +31,21 @@ use Rattle.guest_rules.proofs.Kept.RowChanges.{unshown_info, change-unmapped, on
 use Rattle.guest_rules.proofs.Kept.EntryLaws.{length-with_entry}
 use Rattle.guest_rules.proofs.Kept.SlotsKept.{slot-below, SlotsFit-kept, SlotsFit-freed_slot}
 use Rattle.guest_rules.proofs.Kept.EntriesKept.{HasEntry, has_entry-within, EntriesFit-unmapped, EntriesFit-freed_slot}
-use Rattle.guest_rules.proofs.Kept.PinsKept.{SamePlaces, PinsStand-info, standing, PinsFit-freed_slot}
+use Rattle.guest_rules.proofs.Kept.PinsKept.{SamePlaces, PinsFit-info, PinsFit-freed_slot}
 use Rattle.guest_rules.proofs.Kept.LocksKept.{locks_none, LocksFit-passed}
-use Rattle.guest_rules.proofs.Kept.TeardownsKept.{KeepsTorn, keeps_torn-cleared, OneProcessor, one-set, TeardownsFit-next, TeardownsFit-ended}
-use Rattle.guest_rules.proofs.Fit.FitOthers.{FitAt-others}
-use Rattle.guest_rules.proofs.Fit.FitChanged.{JournalFit-kept}
+use Rattle.guest_rules.proofs.Kept.TeardownsKept.{KeepsTorn, IsUntagged, keeps_torn-cleared, OneProcessor, one-set, TeardownsFit-next, TeardownsFit-ended}
+use Rattle.guest_rules.proofs.Fit.FitMay.{infos-pages}
+use Rattle.guest_rules.proofs.Kept.TagsKept.{tags_stand, TagsStand-maps}
+use Rattle.guest_rules.proofs.Fit.FitOthers.{FlatFit-others, FitAt-others}
+use Rattle.guest_rules.proofs.Fit.FitChanged.{KeepsEnded, JournalFit-kept}
+use Rattle.guest_rules.proofs.Kept.SwapLaws.{swap_tag, swap_slot-nowhere}
 use Rattle.guest_rules.proofs.Fit.StepTold.{Fit-told}
 
 -- ---- an entry is cleared
+
+-- what has writers left had some
+fewer_writers : (writers less : ℕ) → 1 ≤ writers - less → 1 ≤ writers
+fewer_writers writers less h = omega (arith, h)
 
 -- the entry of the page that an unmap is at
 pub torn-has_entry : (state : FlatState) (g : GuestState) (cpu slot index : ℕ) (pte : Pte) → SlotsFit state g.parts → IsTearing g cpu slot index → entry_at g.parts.maps slot index ≡ Some pte
@@ -54,14 +64,18 @@ pub Fit-cleared_entry : (state : FlatState) (g : GuestState) (v : StorageView) (
 Fit-cleared_entry state g v d w e cpu slot index tag pte found after f k at shows back may told =
     Fit-told state state g v d w e pte.page tag found middle after f shows back may (record {
       files = refl;
+      own = λ process number. refl;
+      sound = f.flat.sound;
       only = only-unmapped g.parts slot index pte;
       change = record { size = change.size; here = refl; others = change.others };
-      keeps = rw change.here (record { tag = refl; uptodate = refl; dirty = refl; owner = refl });
+      keeps = rw change.here (record { tag = refl; uptodate = refl; dirty = λ e. e; owner = refl });
+      mappings = places.slots;
+      written = rw change.here (λ s i e some. f.tags.written pte.page s i (rw (infos-pages g v d f.sizes) at shows.below) e (inr (fewer_writers _ _ some)));
       slots = SlotsFit-kept state state g.parts middle f.slots refl places.slots (ap (λ (m : MapsView). length m.entries) set_none ∙ length-with_entry g.parts.maps slot index None) places.pinned
           (ap (λ (m : MapsView). m.pages) set_none ∙ pages-with_entry g.parts.maps slot index None) change.size (ap (λ c. c.files) (only-unmapped g.parts slot index pte).cache);
       entries = EntriesFit-unmapped g.parts middle slot index pte f.entries has change set_none;
       torn = subst (KeepsTorn g.parts.maps) (sym set_none) (keeps_torn-cleared g.parts.maps slot index (has_entry-within g.parts slot index pte has));
-      pins = PinsStand-info g.parts middle pte.page (unshown_info pte.writable (info_at g.parts.pages pte.page)) (standing g.parts f.pins) change
+      pins = PinsFit-info g.parts middle pte.page (unshown_info pte.writable (info_at g.parts.pages pte.page)) f.pins change
           (only-unmapped g.parts slot index pte).cache places refl refl (λ u. u);
     })
     told
@@ -108,10 +122,10 @@ none_left state g cpu slot index slots entries k none last i lt = of (entry_at g
     ]
 
 -- the journal has no entry more
-same_entries : (g h : GuestState) (cpu : ℕ) (processor : Processor) → JournalFit g → h.plan ≡ g.plan → h.journal ≡ g.journal → OneProcessor g.processors h.processors cpu processor
+same_entries : (g h : GuestState) (cpu : ℕ) (processor : Processor) → JournalFit g → KeepsEnded g h → h.plan ≡ g.plan → h.journal ≡ g.journal → OneProcessor g.processors h.processors cpu processor
     → h.processors ≡ set g.processors cpu processor → cpu < length g.processors → entries_of processor ≡ entries_of (processor_at g cpu) → JournalFit h
-same_entries g h cpu processor f plan journal one is below same = JournalFit-kept g h f plan journal one.size each
-    (rw is (sums _ _ _ _ (sum_by-set entries_of g.processors cpu processor first_processor below) same))
+same_entries g h cpu processor f ended plan journal one is below same =
+    JournalFit-kept g h f plan journal one.size each (rw is (sums _ _ _ _ (sum_by-set entries_of g.processors cpu processor first_processor below) same)) ended
   where
     sums : (new was old now : ℕ) → new + was ≡ old + now → now ≡ was → new ≡ old
     sums new was old now a b = omega (arith, a, b)
@@ -126,22 +140,28 @@ same_entries g h cpu processor f plan journal one is below same = JournalFit-kep
 torn-entries : (g : GuestState) (cpu slot index : ℕ) → (processor_at g cpu).phase ≡ Teardown slot index → (processor_at g cpu).place + 1 ≡ entries_of (processor_at g cpu)
 torn-entries g cpu slot index phase = ap (λ p. (processor_at g cpu).place + answered_early p) (sym phase)
 
+before_last : (i index count : ℕ) → i < count → count ≤ index + 1 → i ≢ index → i < index
+before_last i index count below last other = omega (arith, below, last, other)
+
 no_more : (place : ℕ) → place + 1 + 0 ≡ place + 1
 no_more place = omega arith
 
--- the page that it is at has no entry
+-- the page that it is at has no entry, and no page or swap slot of its own
 pub Fit-torn_past : (g : GuestState) (v : StorageView) (d : DiskView) (h : GuestState) (cpu slot index : ℕ) (t : Turn) → Fit g v d
-    → (processor_at g cpu).phase ≡ Teardown slot index → entry_at g.parts.maps slot index ≡ None → HasTornPast g cpu slot index (mapping_pages (slot_at g.parts.maps slot)) h t → Fit h v d
+    → (processor_at g cpu).phase ≡ Teardown slot index → entry_at g.parts.maps slot index ≡ None → IsUntagged g.parts.cache slot index
+    → HasTornPast g cpu slot index (mapping_pages (slot_at g.parts.maps slot)) h t → Fit h v d
 unfolding with_phase next_command
-Fit-torn_past g v d h cpu slot index t f phase none (tears_on more eh et) =
-    rw eh (FitAt-others flat flat g v d g.parts.maps g.journal (set g.processors cpu processor) f refl one.size (record {
+Fit-torn_past g v d h cpu slot index t f phase none bare (tears_on more eh et) =
+    rw eh (FitAt-others flat flat g v d g.parts.maps g.journal (set g.processors cpu processor) f
+    (FlatFit-others flat g v d g.parts.maps g.journal (set g.processors cpu processor) f.flat (λ s live. refl)) one.size (record {
       slots = f.slots;
       entries = f.entries;
       pins = f.pins;
+      tags = tags_stand g.parts v f.tags;
       locks = LocksFit-passed g now cpu (Teardown slot (index + 1)) f.locks refl refl refl one.size (ap (λ (p : Processor). p.phase) one.here) one.others
           (locks_none g cpu (Teardown slot index) phase tt) tt tt;
-      teardowns = TeardownsFit-next g cpu slot index f.teardowns phase k none (rw k.at at more);
-      journal = same_entries g now cpu processor f.journal refl refl one refl k.cpu_below (torn-entries g cpu slot index phase);
+      teardowns = TeardownsFit-next g cpu slot index f.teardowns phase k none bare (rw k.at at more);
+      journal = same_entries g now cpu processor f.journal ended refl refl one refl k.cpu_below (torn-entries g cpu slot index phase);
     }))
   where
     flat : FlatState
@@ -158,14 +178,26 @@ Fit-torn_past g v d h cpu slot index t f phase none (tears_on more eh et) =
 
     one : OneProcessor g.processors (set g.processors cpu processor) cpu processor
     one = one-set g.processors cpu processor k.cpu_below
-Fit-torn_past g v d h cpu slot index t f phase none (has_ended last eh et) =
-    rw eh (FitAt-others flat flat g v d (freed_slot g.parts.maps slot) g.journal (set g.processors cpu processor) f refl one.size (record {
+
+    ended : KeepsEnded g now
+    ended q s i e = elim (cases_eq q cpu) [
+      | inl z ↦
+          let both : Teardown slot (index + 1) ≡ Teardown s i = ap (λ (p : Processor). p.phase) (sym one.here) ∙ ap (λ x. (processor_at now x).phase) (sym z) ∙ e in
+          let same : slot ≡ s = cc in
+          (index, ap (λ x. (processor_at g x).phase) z ∙ phase ∙ ap (λ x. Teardown x index) same, refl)
+      | inr n ↦ (i, ap (λ (p : Processor). p.phase) (sym (one.others q n)) ∙ e, refl)
+    ]
+Fit-torn_past g v d h cpu slot index t f phase none bare (has_ended last eh et) =
+    rw eh (FitAt-others flat flat g v d (freed_slot g.parts.maps slot) g.journal (set g.processors cpu processor) f
+    (FlatFit-others flat g v d (freed_slot g.parts.maps slot) g.journal (set g.processors cpu processor) f.flat (λ s live. elsewhere s (lives s live))) one.size (record {
       slots = SlotsFit-freed_slot flat g.parts slot k.mapping f.slots k.at k.torn unpinned;
       entries = EntriesFit-freed_slot g.parts slot f.entries (none_left flat g cpu slot index f.slots f.entries k none (rw k.at at last));
       pins = PinsFit-freed_slot g.parts slot f.pins unpinned;
+      tags = TagsStand-maps g.parts (freed_slot g.parts.maps slot) (tags_stand g.parts v f.tags) (λ page tag e is. kept tag (λ i z. paged page i (e ∙ ap Some z)) is)
+          (λ number tag e is. kept tag (λ i z. swapped number i (e ∙ ap Some z)) is);
       locks = LocksFit-passed g now cpu Start f.locks refl refl refl one.size (ap (λ (p : Processor). p.phase) one.here) one.others (locks_none g cpu (Teardown slot index) phase tt) tt tt;
       teardowns = TeardownsFit-ended g cpu slot index f.teardowns phase k;
-      journal = same_entries g now cpu processor f.journal refl refl one refl k.cpu_below (no_more (processor_at g cpu).place ∙ torn-entries g cpu slot index phase);
+      journal = same_entries g now cpu processor f.journal ended refl refl one refl k.cpu_below (no_more (processor_at g cpu).place ∙ torn-entries g cpu slot index phase);
     }))
   where
     flat : FlatState
@@ -182,6 +214,42 @@ Fit-torn_past g v d h cpu slot index t f phase none (has_ended last eh et) =
 
     one : OneProcessor g.processors (set g.processors cpu processor) cpu processor
     one = one-set g.processors cpu processor k.cpu_below
+
+    elsewhere : (s : ℕ) → s ≢ slot → slot_at (freed_slot g.parts.maps slot) s ≡ slot_at g.parts.maps s
+    elsewhere s n = slot_at-freed_slot_other g.parts.maps slot s n
+
+    free_now : slot_at (freed_slot g.parts.maps slot) slot ≡ None
+    free_now = slot_at-freed_slot_same g.parts.maps slot (slot-below g.parts.maps slot k.mapping k.at)
+
+    lives : (s : ℕ) → is_live_slot (slot_at (freed_slot g.parts.maps slot) s) ≡ true → s ≢ slot
+    lives s live z = let bad : false ≡ true = ap is_live_slot (sym free_now) ∙ ap (λ x. is_live_slot (slot_at (freed_slot g.parts.maps slot) x)) (sym z) ∙ live in cc
+
+    -- all pages of the mapping have been taken off
+    gone : (i : ℕ) → IsOwnPage (slot_at g.parts.maps slot) i → IsUntagged g.parts.cache slot i
+    gone i is =
+        let own : IsOwnPage (Some k.mapping) i = rw k.at at is in
+        elim (cases_eq i index) [
+          | inl z ↦ subst (IsUntagged g.parts.cache slot) (sym z) bare
+          | inr n ↦ k.untagged i (before_last _ _ _ own.1 (rw k.at at last) n)
+        ]
+
+    paged : (page i : ℕ) → (info_at g.parts.pages page).tag ≡ Some (Anon slot i) → ⊥
+    paged page i e =
+        let none = (gone i (f.tags.pages page (Anon slot i) e)).0 in
+        let bad : None ≡ Some page = sym none ∙ (f.pages.indexed page (Anon slot i) e).1 in cc
+
+    swapped : (number i : ℕ) → swap_tag g.parts.cache number ≡ Some (Anon slot i) → ⊥
+    swapped number i e = swap_slot-nowhere g.parts.cache slot i number (gone i (f.tags.swapped number (Anon slot i) e).1).1 e
+
+    kept : (tag : Tag) → ((i : ℕ) → tag ≡ Anon slot i → ⊥) → IsUsedTag g.parts.maps tag → IsUsedTag (freed_slot g.parts.maps slot) tag
+    kept (File file i) never is = tt
+    kept (Anon s i) never is = subst (λ (o : Option Slot). IsOwnPage o i) (sym (elsewhere s (λ z. never i (λ j. Anon (z j) i)))) is
+
+    ended : KeepsEnded g now
+    ended q s i e =
+        let n : q ≢ cpu = λ z. (let bad : Start ≡ Teardown s i = ap (λ (p : Processor). p.phase) (sym one.here) ∙ ap (λ x. (processor_at now x).phase) (sym z) ∙ e in cc) in
+        let was : (processor_at g q).phase ≡ Teardown s i = ap (λ (p : Processor). p.phase) (sym (one.others q n)) ∙ e in
+        (i, was, ap own_pages (elsewhere s (λ z. n (f.teardowns.alone q cpu s i index was (phase ∙ ap (λ x. Teardown x index) (sym z))))))
 
     unpinned : (i : ℕ) → i < MAX_MAPPING_PAGES → pinned_at g.parts.maps slot i ≡ false
     unpinned i lt = f.teardowns.unpinned slot i k.mapping k.at k.torn lt

@@ -10,7 +10,7 @@ use Rattle.guest_pages.specs.PagesView.{info_at}
 use Rattle.guest_cache.specs.CacheView.{CacheView, IsTag, page_of}
 use Rattle.guest_rules.specs.declared.parts.Parts.{Parts}
 use Rattle.guest_rules.specs.Hint.{hint, can_be_fetched_again}
-use Rattle.guest_rules.specs.Fit.{PagesFit, backing, current_bytes, current_at, current}
+use Rattle.guest_rules.specs.Fit.{PagesFit, IsFlatTag, backing, current_bytes, current_at, current}
 use Rattle.guest_rules.proofs.Rows.ValueLaws.{hint-tagged}
 use Rattle.guest_rules.proofs.Kept.PageFits.{PageFits, EachPageFits, backing-same}
 
@@ -80,6 +80,7 @@ current_bytes-lost true Lost behind e = refl
 pub record SameCurrent (old : Parts) (v : StorageView) (d : DiskView) (new : Parts) (w : StorageView) (e : DiskView) (page : ℕ) : Type 0 where
   pub fits : EachPageFits old v d
   pub pages : PagesFit old
+  pub flat_is : (tag : Tag) → IsFlatTag old tag → IsTag old.cache tag
   pub files : new.cache.files ≡ old.cache.files
   pub swap : new.cache.swap ≡ old.cache.swap
   pub blocks : e.blocks ≡ d.blocks

@@ -14,6 +14,7 @@ use Rattle.guest_maps.specs.MapsView.{MapsView, slot_at, entry_at, place_at, tag
 use Rattle.guest_maps.specs.Laws.MapsLaws.{entry_place_exact, slots-with_entry, entry_at-with_entry_other, slots-without_entries_of, writers_showing-without_same, writers_showing-without_other, slot_at-with_mapping_other, entries-torn_slot, entry_at-torn_slot}
 use Rattle.guest_maps.specs.Laws.TornLaws.{same-torn_slot, tag_at-torn_slot, place-torn_slot, entries-freed_slot, slot_at-freed_slot_other}
 use Rattle.guest_rules.specs.declared.parts.Parts.{Parts}
+use Rattle.guest_rules.specs.Rows.{shown_info}
 use Rattle.guest_rules.specs.Turns.{slot_writable}
 use Rattle.guest_rules.specs.Fit.{IsEntry, EntriesFit}
 use Rattle.guest_rules.proofs.Cases.TurnCases.{CanBeSet}
@@ -101,7 +102,7 @@ pub record NewEntry (old : Parts) (slot index page : ℕ) (writes : Bool) (tag :
 
 -- an entry shows the page
 pub EntriesFit-mapped : (old new : Parts) (slot index page : ℕ) (writes : Bool) (tag : Tag) → EntriesFit old → NewEntry old slot index page writes tag
-    → InfoChange old.pages new.pages page (record (info_at old.pages page) { writers = (info_at old.pages page).writers + one_if writes })
+    → InfoChange old.pages new.pages page (shown_info (info_at old.pages page) writes)
     → new.maps ≡ with_entry old.maps slot index (Some (record { page = page; writable = writes })) → EntriesFit new
 EntriesFit-mapped old new slot index page writes tag f k change maps = record {
   entry = λ s i pte lt e. elim (cases_eq s slot) [
@@ -132,7 +133,7 @@ EntriesFit-mapped old new slot index page writes tag f k change maps = record {
     same s = ap (λ (m : MapsView). slot_at m s) maps ∙ ap (λ xs. slot_at (record old.maps { slots = xs }) s) (slots-with_entry old.maps slot index (Some one))
 
     shows : (i : ℕ) → StillShown old new i
-    shows = still_shown old new page (record (info_at old.pages page) { writers = (info_at old.pages page).writers + one_if writes }) change (λ t a u. (a, u))
+    shows = still_shown old new page (shown_info (info_at old.pages page) writes) change (λ t a u. (a, u))
 
     mine : IsEntry new slot index one
     mine = record {

@@ -381,7 +381,8 @@ locks_none g cpu phase is none i (inr (inr pages_out)) = subst (λ q. LocksNone 
 
 -- one processor that has no page locked goes on, with none locked
 pub LocksFit-passed : (g h : GuestState) (cpu : ℕ) (phase : Phase) → LocksFit g → h.plan ≡ g.plan → h.parts.pages ≡ g.parts.pages → h.parts.cache ≡ g.parts.cache
-    → length h.processors ≡ length g.processors → (processor_at h cpu).phase ≡ phase → ((q : ℕ) → q ≢ cpu → processor_at h q ≡ processor_at g q) → ((i : ℕ) → HasLocked g cpu i → ⊥) → LocksNone phase → PhaseFits h cpu phase → LocksFit h
+    → length h.processors ≡ length g.processors → (processor_at h cpu).phase ≡ phase → ((q : ℕ) → q ≢ cpu → processor_at h q ≡ processor_at g q)
+    → ((i : ℕ) → HasLocked g cpu i → ⊥) → LocksNone phase → PhaseFits h cpu phase → LocksFit h
 LocksFit-passed g h cpu phase f plan pages cache count is others own none now = record {
   stale_clean = λ i u. rw pages (f.stale_clean i (rw pages at u));
   filling = λ q i e. elim (cases_eq q cpu) [

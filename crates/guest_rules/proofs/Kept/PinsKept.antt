@@ -3,11 +3,9 @@
 use Rattle.std.proofs.Common.{◌≡◌, ◌≢◌, ◌<◌, ◌+◌, ℕ, Bool, true, false, not, length, slice_index_or, Some, None, refl, ap, sym, ◌∙◌, inl, inr, arith}
 use Rattle.std.proofs.lemmas.Bool.{cases_eq}
 use Rattle.cmm_types.specs.declared.page.Tag.{Tag}
-use Rattle.cmm_types.specs.declared.page.Tag.TheVariants.{File}
 use Rattle.cmm_types.specs.declared.command.TheConstants.{MAX_MAPPING_PAGES}
-use Rattle.cmm_io.specs.DiskView.{DiskView}
+use Rattle.cmm_types.specs.declared.plan.TheConstants.{MAX_MAPPING_SLOTS}
 use Rattle.cmm_flat.specs.State.{FlatState}
-use Rattle.cmm_storage.specs.StorageView.{StorageView}
 use Rattle.guest_pages.specs.declared.info.PageInfo.{PageInfo}
 use Rattle.guest_pages.specs.PagesView.{free_info, info_at}
 use Rattle.guest_cache.specs.CacheView.{CacheView, IsTag, page_of}
@@ -19,26 +17,9 @@ use Rattle.guest_rules.specs.declared.parts.Parts.{Parts}
 use Rattle.guest_rules.specs.Rows.{pins_after}
 use Rattle.guest_rules.specs.Fit.{PagesFit, SlotsFit, PinsFit, IsKept, pin_on, pins_within, pins_on}
 use Rattle.guest_rules.proofs.Kept.Changes.{InfoChange, IndexChange}
-use Rattle.guest_rules.proofs.Kept.PageFits.{EachPageFits, every_info}
 use Rattle.guest_rules.proofs.Kept.PinLaws.{PinChange, pin_on-none, pin_on-one, pin_on-same, pins_within-same, pins_within-one, pins_within-none, pins_within-some}
 use Rattle.guest_rules.proofs.Kept.SlotsKept.{slot-below}
-use Rattle.guest_rules.proofs.Cases.WantedTags.{shows_at, wanted-shown}
-
--- what fit says of pins, but for the kinds of tags
-pub record PinsStand (parts : Parts) : Type 0 where
-  pub counted : (page : ℕ) (tag : Tag) → (info_at parts.pages page).tag ≡ Some tag → (info_at parts.pages page).pins ≡ pins_on parts.maps tag
-  pub kept : (slot index : ℕ) (tag : Tag) → index < MAX_MAPPING_PAGES → pinned_at parts.maps slot index ≡ true → tag_at parts.maps slot index ≡ Some tag → IsKept parts tag
-
-pub standing : (parts : Parts) → PinsFit parts → PinsStand parts
-standing parts f = record { counted = f.counted; kept = f.kept }
-
-pub PinsFit-from : (parts : Parts) (v : StorageView) (d : DiskView) → PinsStand parts → EachPageFits parts v d → PinsFit parts
-PinsFit-from parts v d pins fits = record {
-  counted = pins.counted;
-  kept = pins.kept;
-  of_files = every_info (λ info. (tag : Tag) → info.tag ≡ Some tag → (file : ℕ) × (index : ℕ) × (tag ≡ File file index)) parts.pages v.pages fits.size (λ tag t. absurd cc)
-      (λ page below. (fits.each page below).of_files);
-}
+use Rattle.guest_rules.proofs.Cases.WantedTags.{shows_at, shown-is_tag}
 
 -- ---- the places are the same
 
@@ -70,9 +51,9 @@ pinned_before old new slot index tag same pinned mapped =
     record { pinned = sym (pinned-same old.maps new slot index same) ∙ pinned; mapped = sym (tag-same old.maps new slot index same.slots) ∙ mapped }
 
 -- a page's info is another, of the same tag and with as many pins, and it is up to date if it was
-pub PinsStand-info : (old new : Parts) (page : ℕ) (info : PageInfo) → PinsStand old → InfoChange old.pages new.pages page info → new.cache ≡ old.cache → SamePlaces old.maps new.maps
-    → info.tag ≡ (info_at old.pages page).tag → info.pins ≡ (info_at old.pages page).pins → ((info_at old.pages page).uptodate ≡ true → info.uptodate ≡ true) → PinsStand new
-PinsStand-info old new page info f change cache same tags pins fresh = record {
+pub PinsFit-info : (old new : Parts) (page : ℕ) (info : PageInfo) → PinsFit old → InfoChange old.pages new.pages page info → new.cache ≡ old.cache → SamePlaces old.maps new.maps
+    → info.tag ≡ (info_at old.pages page).tag → info.pins ≡ (info_at old.pages page).pins → ((info_at old.pages page).uptodate ≡ true → info.uptodate ≡ true) → PinsFit new
+PinsFit-info old new page info f change cache same tags pins fresh = record {
   counted = λ i t e. elim (cases_eq i page) [
     | inl z ↦
         let tagged : (info_at old.pages page).tag ≡ Some t = sym tags ∙ ap (λ (x : PageInfo). x.tag) (sym change.here) ∙ ap (λ q. (info_at new.pages q).tag) (sym z) ∙ e in
@@ -94,11 +75,11 @@ PinsStand-info old new page info f change cache same tags pins fresh = record {
 -- ---- a page is freed, or gets a tag
 
 -- what is pinned is a tag of the cache, and its slot is one
-pinned-is_tag : (state : FlatState) (old : Parts) (slot index : ℕ) (tag : Tag) → SlotsFit state old → tag_at old.maps slot index ≡ Some tag → IsTag old.cache tag
-pinned-is_tag state old slot index tag slots mapped = (wanted-shown old slot index tag (shows_at state old slot index tag slots mapped)).is_tag
+pinned-is_tag : (state : FlatState) (old : Parts) (slot index : ℕ) (tag : Tag) → SlotsFit state old → old.cache.slots ≡ MAX_MAPPING_SLOTS → tag_at old.maps slot index ≡ Some tag → IsTag old.cache tag
+pinned-is_tag state old slot index tag slots sized mapped = shown-is_tag state old slot index tag slots sized (shows_at state old slot index tag slots mapped)
 
 -- no pinned place maps the tag of a page without pins
-pub never-pinned : (state : FlatState) (old : Parts) (page : ℕ) (tag : Tag) → PinsStand old → SlotsFit state old → (info_at old.pages page).tag ≡ Some tag → (info_at old.pages page).pins ≡ 0
+pub never-pinned : (state : FlatState) (old : Parts) (page : ℕ) (tag : Tag) → PinsFit old → SlotsFit state old → (info_at old.pages page).tag ≡ Some tag → (info_at old.pages page).pins ≡ 0
     → (slot index : ℕ) → index < MAX_MAPPING_PAGES → pinned_at old.maps slot index ≡ true → tag_at old.maps slot index ≡ Some tag → ⊥
 never-pinned state old page tag f slots tagged none slot index below pinned mapped =
     let its = shows_at state old slot index tag slots mapped in
@@ -106,10 +87,10 @@ never-pinned state old page tag f slots tagged none slot index below pinned mapp
     omega (arith, some, f.counted page tag tagged, none)
 
 -- a page whose tag is pinned nowhere is free
-pub PinsStand-freed : (state : FlatState) (old new : Parts) (page : ℕ) (tag : Tag) → PinsStand old → PagesFit old → SlotsFit state old → (info_at old.pages page).tag ≡ Some tag
-    → (info_at old.pages page).pins ≡ 0
-    → InfoChange old.pages new.pages page free_info → IndexChange old.cache new.cache tag None → SamePlaces old.maps new.maps → PinsStand new
-PinsStand-freed state old new page tag f pages slots tagged none change index same = record {
+pub PinsFit-freed : (state : FlatState) (old new : Parts) (page : ℕ) (tag : Tag) → PinsFit old → PagesFit old → SlotsFit state old → old.cache.slots ≡ MAX_MAPPING_SLOTS
+    → (info_at old.pages page).tag ≡ Some tag → (info_at old.pages page).pins ≡ 0
+    → InfoChange old.pages new.pages page free_info → IndexChange old.cache new.cache tag None → SamePlaces old.maps new.maps → PinsFit new
+PinsFit-freed state old new page tag f pages slots sized tagged none change index same = record {
   counted = λ i t e. elim (cases_eq i page) [
     | inl z ↦ let bad : None ≡ Some t = ap (λ (x : PageInfo). x.tag) (sym change.here) ∙ ap (λ q. (info_at new.pages q).tag) (sym z) ∙ e in absurd cc
     | inr n ↦ rw (change.others i n) (f.counted i t (rw (change.others i n) at e) ∙ sym (pins_on-same old.maps new.maps t same))
@@ -117,17 +98,18 @@ PinsStand-freed state old new page tag f pages slots tagged none change index sa
   kept = λ s i t below p m.
       let was = pinned_before old new.maps s i t same p m in
       let k = f.kept s i t below was.pinned was.mapped in
-      let is = pinned-is_tag state old s i t slots was.mapped in
+      let is = pinned-is_tag state old s i t slots sized was.mapped in
       let other : t ≢ tag = λ z. never-pinned state old page tag f slots tagged none s i below was.pinned (was.mapped ∙ ap Some z) in
       let apart : k.page ≢ page = λ z. other (let both : Some t ≡ Some tag = sym (pages.found k.page t is k.there).1 ∙ ap (λ q. (info_at old.pages q).tag) z ∙ tagged in cc) in
       record { page = k.page; there = index.others t is other ∙ k.there; uptodate = rw (change.others k.page apart) k.uptodate };
 }
 
 -- a free page has a tag that is on no page
-pub PinsStand-begun : (state : FlatState) (old new : Parts) (page : ℕ) (tag : Tag) (info : PageInfo) → PinsStand old → PagesFit old → SlotsFit state old → info_at old.pages page ≡ free_info
+pub PinsFit-begun : (state : FlatState) (old new : Parts) (page : ℕ) (tag : Tag) (info : PageInfo) → PinsFit old → PagesFit old → SlotsFit state old
+    → old.cache.slots ≡ MAX_MAPPING_SLOTS → info_at old.pages page ≡ free_info
     → page_of old.cache tag ≡ None
-    → info.tag ≡ Some tag → info.pins ≡ 0 → InfoChange old.pages new.pages page info → IndexChange old.cache new.cache tag (Some page) → SamePlaces old.maps new.maps → PinsStand new
-PinsStand-begun state old new page tag info f pages slots bare none tagged pins change index same = record {
+    → info.tag ≡ Some tag → info.pins ≡ 0 → InfoChange old.pages new.pages page info → IndexChange old.cache new.cache tag (Some page) → SamePlaces old.maps new.maps → PinsFit new
+PinsFit-begun state old new page tag info f pages slots sized bare none tagged pins change index same = record {
   counted = λ i t e. elim (cases_eq i page) [
     | inl z ↦
         let both : Some tag ≡ Some t = sym tagged ∙ ap (λ (x : PageInfo). x.tag) (sym change.here) ∙ ap (λ q. (info_at new.pages q).tag) (sym z) ∙ e in
@@ -138,7 +120,7 @@ PinsStand-begun state old new page tag info f pages slots bare none tagged pins 
   kept = λ s i t below p m.
       let was = pinned_before old new.maps s i t same p m in
       let k = f.kept s i t below was.pinned was.mapped in
-      let is = pinned-is_tag state old s i t slots was.mapped in
+      let is = pinned-is_tag state old s i t slots sized was.mapped in
       let other : t ≢ tag = λ z. nowhere s i below was.pinned (was.mapped ∙ ap Some z) in
       let apart : k.page ≢ page = λ z. (let bad : false ≡ true = ap (λ (x : PageInfo). x.uptodate) (sym bare) ∙ ap (λ q. (info_at old.pages q).uptodate) (sym z) ∙ k.uptodate in cc) in
       record { page = k.page; there = index.others t is other ∙ k.there; uptodate = rw (change.others k.page apart) k.uptodate };
@@ -178,9 +160,9 @@ counted-after : (pins : Bool) (old new here was : ℕ) → here ≡ (if_pins pin
 counted-after true old new here was h w each = let k = each 0 1 (omega (arith, h, w)) in omega (arith, k)
 counted-after false old new here was h w each = let k = each 1 0 (omega (arith, h, w)) in omega (arith, k)
 
-pub PinsStand-pinned : (old new : Parts) (page slot index : ℕ) (pins : Bool) (tag : Tag) (info : PageInfo) → PinsStand old → PagesFit old → PinStep old new page slot index pins tag info
-    → PinsStand new
-PinsStand-pinned old new page slot index pins tag info f pages k = record {
+pub PinsFit-pinned : (old new : Parts) (page slot index : ℕ) (pins : Bool) (tag : Tag) (info : PageInfo) → PinsFit old → PagesFit old → PinStep old new page slot index pins tag info
+    → PinsFit new
+PinsFit-pinned old new page slot index pins tag info f pages k = record {
   counted = λ i t e. elim (cases_eq i page) [
     | inl z ↦
         let both : Some tag ≡ Some t = sym (k.tags ∙ k.tagged) ∙ ap (λ (x : PageInfo). x.tag) (sym k.change.here) ∙ ap (λ q. (info_at new.pages q).tag) (sym z) ∙ e in
@@ -264,7 +246,6 @@ PinsFit-new state old new slot process number count shown f slots free is = rw i
       let n = apart s i below p in
       let k = f.kept s i tag below p (sym (ap (λ o. tag_in o s i) (slot_at-with_mapping_other old.maps slot s process number shown count n)) ∙ m) in
       record { page = k.page; there = k.there; uptodate = k.uptodate };
-  of_files = f.of_files;
 })
   where
     now : MapsView
@@ -290,7 +271,6 @@ PinsFit-torn old slot f within = record {
       ∙ pins_within-same old.maps now tag (length old.maps.slots) MAX_MAPPING_PAGES (λ s i _ _. pin_on-same old.maps now tag s i (pins s i) (tag_at-torn_slot old.maps slot s i within)));
   kept = λ s i tag below p m.
       let k = f.kept s i tag below (sym (pins s i) ∙ p) (sym (tag_at-torn_slot old.maps slot s i within) ∙ m) in record { page = k.page; there = k.there; uptodate = k.uptodate };
-  of_files = f.of_files;
 }
   where
     now : MapsView
@@ -309,7 +289,6 @@ PinsFit-freed_slot old slot f unpinned = record {
       let was : pinned_at old.maps s i ≡ true = sym (pins s i) ∙ p in
       let k = f.kept s i tag below was (sym (ap (λ o. tag_in o s i) (slot_at-freed_slot_other old.maps slot s (apart s i below was))) ∙ m) in
       record { page = k.page; there = k.there; uptodate = k.uptodate };
-  of_files = f.of_files;
 }
   where
     now : MapsView

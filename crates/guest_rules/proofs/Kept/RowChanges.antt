@@ -1,5 +1,5 @@
 -- What each change of the tables leaves: a page begun, handled after a discard, freed after a failure, filled, found changed, shown by an entry or not any more, pinned or unpinned.
-use Rattle.std.proofs.Common.{◌≡◌, ◌<◌, ◌+◌, ◌-◌, ℕ, Bool, true, false, ◌∷◌, drop, length, Some, None, refl, ap, ◌∙◌}
+use Rattle.std.proofs.Common.{◌≡◌, ◌<◌, ◌-◌, ℕ, Bool, true, false, ◌∷◌, drop, length, Some, None, refl, ap, ◌∙◌}
 use Rattle.cmm_types.specs.declared.page.Tag.{Tag}
 use Rattle.guest_pages.specs.declared.info.PageInfo.{PageInfo}
 use Rattle.guest_pages.specs.PagesView.{PagesView, info_at, free_info, with_info, with_owner, with_uptodate, with_dirty, with_pins, with_writers, popped, pushed}
@@ -7,7 +7,7 @@ use Rattle.guest_cache.specs.CacheView.{without_page}
 use Rattle.guest_rules.specs.declared.parts.Parts.{Parts}
 use Rattle.guest_maps.specs.declared.slot.Pte.{Pte}
 use Rattle.guest_maps.specs.MapsView.{with_entry, without_entries_of, with_pinned, one_if}
-use Rattle.guest_rules.specs.Rows.{freed, handled, filled, with_change, mapped, unmapped, pinned, pins_after}
+use Rattle.guest_rules.specs.Rows.{freed, handled, filled, with_change, shown_info, mapped, unmapped, pinned, pins_after}
 use Rattle.guest_rules.specs.Turns.{begun}
 use Rattle.guest_rules.proofs.Kept.Changes.{InfoChange, change-with_info, InfoChange-trans}
 
@@ -107,17 +107,13 @@ pub maps-changed : (parts : Parts) (page : ℕ) (changed : Bool) → (with_chang
 maps-changed parts page true = refl
 maps-changed parts page false = refl
 
--- one entry more shows the page
-abbrev pub shown_info : Bool → PageInfo → PageInfo
-shown_info writes info = record info { writers = info.writers + one_if writes }
-
 pub change-mapped : (parts : Parts) (page slot index : ℕ) (writes : Bool) → page < length parts.pages.infos
-    → InfoChange parts.pages (mapped parts page slot index writes).pages page (shown_info writes (info_at parts.pages page))
-unfolding mapped with_writers
-change-mapped parts page slot index writes below = change-with_info parts.pages page (shown_info writes (info_at parts.pages page)) below
+    → InfoChange parts.pages (mapped parts page slot index writes).pages page (shown_info (info_at parts.pages page) writes)
+unfolding mapped
+change-mapped parts page slot index writes below = change-with_info parts.pages page (shown_info (info_at parts.pages page) writes) below
 
 pub only-mapped : (parts : Parts) (page slot index : ℕ) (writes : Bool) → OnlyPages parts (mapped parts page slot index writes)
-unfolding mapped with_writers with_info
+unfolding mapped with_info
 only-mapped parts page slot index writes = record { free = refl; cache = refl; faults = refl }
 
 pub maps-mapped : (parts : Parts) (page slot index : ℕ) (writes : Bool)

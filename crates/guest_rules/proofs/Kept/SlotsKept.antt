@@ -8,25 +8,27 @@ use Rattle.std.proofs.lemmas.List.{get_or_past}
 use Rattle.cmm_types.specs.declared.command.TheConstants.{MAX_MAPPING_PAGES}
 use Rattle.cmm_flat.specs.declared.mapping.Place.{Place}
 use Rattle.cmm_flat.specs.declared.mapping.Mapping.{Mapping}
-use Rattle.cmm_flat.specs.declared.mapping.Shown.TheVariants.{OfFile as FlatFile}
+use Rattle.cmm_flat.specs.declared.mapping.Shown.{Shown as FlatShown}
 use Rattle.cmm_flat.specs.Mapping.{with_pin}
 use Rattle.cmm_flat.specs.Laws.PlaceLaws.{places_total}
 use Rattle.cmm_flat.specs.State.{FlatState, mapping_at, place_of}
 use Rattle.cmm_flat.specs.Flat.{none_pinned, with_mapping as flat_with_mapping, without_mapping}
 use Rattle.cmm_flat.specs.Laws.StepLaws.{mapping_at-with_mapping, mapping_at-with_mapping_other, mapping_at-without_mapping, mapping_at-without_mapping_other}
 use Rattle.guest_maps.specs.declared.slot.Slot.{Slot}
+use Rattle.guest_cache.specs.CacheView.{CacheView}
 use Rattle.guest_maps.specs.declared.slot.Shown.{Shown}
-use Rattle.guest_maps.specs.declared.slot.Shown.TheVariants.{File as OfFile}
+use Rattle.guest_maps.specs.declared.slot.Shown.TheVariants.{File as OfFile, Anon as OfItsOwn}
 use Rattle.guest_maps.specs.MapsView.{MapsView, IsPlace, slot_at, find_slot, free_slot, live_slots, is_live_slot, is_mapping, slot_has_page, place_at, pinned_at, new_mapping, torn, with_slot_mapped, torn_slot, freed_slot}
 use Rattle.guest_maps.specs.FirstPlace.{position_only}
 use Rattle.guest_maps.specs.Laws.SlotLaws.{own_mapping, other_mapping, mapping_is}
 use Rattle.guest_maps.specs.Laws.MapsLaws.{IsPlace-from, free_slot-is, find_slot-is, find_slot-none, length-with_mapping, entries-with_mapping, pinned-with_mapping, pages-with_mapping, slot_at-with_mapping_same, slot_at-with_mapping_other, find_slot-with_mapping_other, live_slots-with_mapping, length-torn_slot, entries-torn_slot, slot_at-torn_slot_same, length-freed_slot}
 use Rattle.guest_maps.specs.Laws.TornLaws.{pinned-torn_slot, pages-torn_slot, slot_at-torn_slot_other, place-torn_slot, find_slot-torn_slot_same, find_slot-torn_slot_other, live_slots-torn_slot, entries-freed_slot, pinned-freed_slot, pages-freed_slot, slot_at-freed_slot_same, slot_at-freed_slot_other, find_slot-freed_slot, live_slots-freed_slot}
 use Rattle.guest_rules.specs.declared.parts.Parts.{Parts}
-use Rattle.guest_rules.specs.Fit.{SlotsFit, pins_of, flat_shown, flat_slot, flat_mapping, flat_found}
+use Rattle.guest_rules.specs.Fit.{SlotsFit, HasShownPages, pins_of, without_bytes, shape_of, flat_shown, flat_slot, flat_mapping, flat_found}
 use Rattle.guest_rules.proofs.Cases.MapsFound.{IsFoundSlot, found_slot}
 use Rattle.guest_rules.proofs.Cases.Placed.{PinPlace}
 use Rattle.guest_rules.proofs.Kept.PinLaws.{PinChange, pins_of-same, pins_of-none, pins_of-set}
+use Rattle.guest_rules.proofs.Kept.Shapes.{shape_none, shape_some, shape_pinned}
 
 is_below : (index count : ℕ) → index < count → nat_lt index count ≡ true
 is_below index count below = grind (arith, nat_tests)
@@ -47,8 +49,13 @@ flat_mapping-same old new slot same pins = ap (flat_mapping new slot) same ∙ o
     of : (o : Option Slot) → ((index : ℕ) → slot_has_page o index ≡ true → pinned_at new slot index ≡ pinned_at old slot index) → flat_mapping new slot o ≡ flat_mapping old slot o
     of None each = refl
     of (Some mapping) each =
-        ap (λ q. let out : Option Mapping = Some (record { shown = flat_shown mapping.shown mapping.count; pins = q }) in out)
+        ap (λ q. let out : Option Mapping = Some (record { shown = flat_shown mapping.shown; pins = q }) in out)
         (pins_of-same old new slot mapping.count (λ index below. each index (is_below index mapping.count below)))
+
+-- what is shown is there, where the files are the same
+shows-files : (old new : CacheView) (shown : Shown) (count : ℕ) → new.files ≡ old.files → HasShownPages old shown count → HasShownPages new shown count
+shows-files old new (OfFile file first writable) count files shows = (rw files shows.0, rw files shows.1)
+shows-files old new OfItsOwn count files shows = tt
 
 -- the slots are the same, and so are what is pinned, the files and the flat mappings
 pub SlotsFit-kept : (state later : FlatState) (old new : Parts) → SlotsFit state old → later.mappings ≡ state.mappings → new.maps.slots ≡ old.maps.slots
@@ -60,10 +67,10 @@ SlotsFit-kept state later old new f mappings slots entries pinned pages infos fi
   pinned = ap length pinned ∙ f.pinned;
   pages = pages ∙ f.pages ∙ sym infos;
   apart = λ slot other mapping another e e'. f.apart slot other mapping another (rw slots at e) (rw slots at e');
-  flat = λ process number. ap (λ m. finite.get m (place_of process number)) mappings ∙ f.flat process number ∙ sym (found process number);
+  flat = λ process number. ap (λ m. shape_of (finite.get m (place_of process number))) mappings ∙ f.flat process number ∙ sym (found process number);
   counted = ap (λ m. finite.len m) mappings ∙ f.counted ∙ ap (λ xs. of_live xs) (sym slots);
   some = λ slot mapping e. f.some slot mapping (rw slots at e);
-  shown = λ slot mapping e. let k = f.shown slot mapping (rw slots at e) in (k.0, rw files k.1);
+  shown = λ slot mapping e. let k = f.shown slot mapping (rw slots at e) in (k.0, shows-files old.cache new.cache mapping.shown mapping.count files k.1);
   placed = λ slot index below e.
       ap (λ xs. slot_has_page (slice_index_or xs slot None) index) slots ∙ f.placed slot index below (ap (λ xs. slice_index_or xs (place_at slot index) false) (sym pinned) ∙ e);
 }
@@ -79,22 +86,40 @@ SlotsFit-kept state later old new f mappings slots entries pinned pages infos fi
     found : (process number : ℕ) → flat_found new.maps (find_slot new.maps process number) ≡ flat_found old.maps (find_slot old.maps process number)
     found process number = ap (λ xs. flat_found new.maps (position (is_mapping process number) xs)) slots ∙ with_found process number (find_slot old.maps process number)
 
--- a mapping of a file in a free slot
-pub record NewMapping (old : Parts) (slot process number file first count : ℕ) : Type 0 where
+-- the flat mappings have other bytes of their own at most
+pub record SameShapes (state later : FlatState) : Type 0 where
+  pub shapes : (process number : ℕ) → shape_of (mapping_at later process number) ≡ shape_of (mapping_at state process number)
+  pub count : finite.len later.mappings ≡ finite.len state.mappings
+
+pub SlotsFit-shaped : (state later : FlatState) (parts : Parts) → SlotsFit state parts → SameShapes state later → SlotsFit later parts
+SlotsFit-shaped state later parts f same = record {
+  slots = f.slots;
+  entries = f.entries;
+  pinned = f.pinned;
+  pages = f.pages;
+  apart = f.apart;
+  flat = λ process number. same.shapes process number ∙ f.flat process number;
+  counted = same.count ∙ f.counted;
+  some = f.some;
+  shown = f.shown;
+  placed = f.placed;
+}
+
+-- a mapping in a free slot
+pub record NewMapping (old : Parts) (slot process number : ℕ) (shown : Shown) (count : ℕ) : Type 0 where
   pub free : free_slot old.maps ≡ Some slot
   pub none : find_slot old.maps process number ≡ None
   pub some : 1 ≤ count
   pub few : count ≤ MAX_MAPPING_PAGES
-  pub file_below : file < length old.cache.files
-  pub within : first + count ≤ slice_index_or old.cache.files file 0
+  pub shows : HasShownPages old.cache shown count
 
-abbrev new_file : (file first : ℕ) → Bool → ℕ → Mapping
-new_file file first writable count = record { shown = FlatFile file first writable; pins = none_pinned count }
+abbrev pub new_flat : FlatShown → ℕ → Mapping
+new_flat flat count = record { shown = flat; pins = none_pinned count }
 
-pub SlotsFit-mapped : (state : FlatState) (old new : Parts) (slot process number file first count : ℕ) (writable : Bool) → SlotsFit state old → NewMapping old slot process number file first count
-    → new ≡ record old { maps = with_slot_mapped old.maps slot process number (OfFile file first writable) count }
-    → SlotsFit (flat_with_mapping state process number (new_file file first writable count)) new
-SlotsFit-mapped state old new slot process number file first count writable f k is = rw is (record {
+pub SlotsFit-mapped : (state : FlatState) (old new : Parts) (slot process number count : ℕ) (shown : Shown) (flat : FlatShown) → SlotsFit state old → NewMapping old slot process number shown count
+    → without_bytes flat ≡ flat_shown shown → new ≡ record old { maps = with_slot_mapped old.maps slot process number shown count }
+    → SlotsFit (flat_with_mapping state process number (new_flat flat count)) new
+SlotsFit-mapped state old new slot process number count shown flat f k shape is = rw is (record {
   slots = length-with_mapping old.maps slot process number shown count ∙ f.slots;
   entries = ap length (entries-with_mapping old.maps slot process number shown count) ∙ f.entries;
   pinned = ap length pinned ∙ f.pinned;
@@ -116,7 +141,7 @@ SlotsFit-mapped state old new slot process number file first count writable f k 
   flat = λ p n. elim (cases_eq p process) [
     | inl z ↦ elim (cases_eq n number) [
       | inl y ↦
-          rw (z, y) (mapping_at-with_mapping state process number (new_file file first writable count)
+          rw (z, y) (ap shape_of (mapping_at-with_mapping state process number (new_flat flat count)) ∙ ap shown_as shape
           ∙ sym (ap (flat_found now) found_here ∙ ap (flat_mapping now slot) (slot_at-with_mapping_same old.maps slot process number shown count below) ∙ ap new_pins none_pinned_yet))
       | inr m ↦ other p n (λ q r. m (sym r))
     ]
@@ -128,7 +153,7 @@ SlotsFit-mapped state old new slot process number file first count writable f k 
     | inr n ↦ f.some s mapping (sym (there s n) ∙ e)
   ];
   shown = λ s mapping e. elim (cases_eq s slot) [
-    | inl z ↦ let its = here s mapping z e in rw (← its) (k.few, (file, first, writable, refl, k.file_below, k.within))
+    | inl z ↦ let its = here s mapping z e in rw (← its) (k.few, k.shows)
     | inr n ↦ f.shown s mapping (sym (there s n) ∙ e)
   ];
   placed = λ s index lt e.
@@ -136,9 +161,6 @@ SlotsFit-mapped state old new slot process number file first count writable f k 
       ap (λ (o : Option Slot). slot_has_page o index) (there s (unpinned s index was)) ∙ was;
 })
   where
-    shown : Shown
-    shown = OfFile file first writable
-
     one : Slot
     one = new_mapping process number shown count
 
@@ -162,7 +184,10 @@ SlotsFit-mapped state old new slot process number file first count writable f k 
     unpinned s index is z = let bad : false ≡ true = ap (λ (o : Option Slot). slot_has_page o index) (sym free) ∙ ap (λ q. slot_has_page (slot_at old.maps q) index) (sym z) ∙ is in cc
 
     new_pins : List Bool → Option Mapping
-    new_pins pins = Some (record { shown = FlatFile file first writable; pins = pins })
+    new_pins pins = Some (record { shown = flat_shown shown; pins = pins })
+
+    shown_as : FlatShown → Option Mapping
+    shown_as s = Some (record { shown = s; pins = none_pinned count })
 
     none_pinned_yet : pins_of now slot count ≡ none_pinned count
     none_pinned_yet =
@@ -197,9 +222,9 @@ SlotsFit-mapped state old new slot process number file first count writable f k 
           | inr n ↦ let bad : true ≡ false = sym t ∙ ap (is_mapping process number) (there j n) ∙ find_slot-none old.maps process number k.none j in absurd cc
         ]
 
-    other : (p n : ℕ) → (process ≡ p → number ≡ n → ⊥) → mapping_at (flat_with_mapping state process number (new_file file first writable count)) p n ≡ flat_found now (find_slot now p n)
+    other : (p n : ℕ) → (process ≡ p → number ≡ n → ⊥) → shape_of (mapping_at (flat_with_mapping state process number (new_flat flat count)) p n) ≡ flat_found now (find_slot now p n)
     other p n differ =
-        mapping_at-with_mapping_other state process number (new_file file first writable count) p n (λ e. differ (ap (λ (x : Place). x.process) (sym e)) (ap (λ (x : Place). x.map) (sym e)))
+        ap shape_of (mapping_at-with_mapping_other state process number (new_flat flat count) p n (λ e. differ (ap (λ (x : Place). x.process) (sym e)) (ap (λ (x : Place). x.map) (sym e))))
         ∙ f.flat p n
         ∙ sym (ap (flat_found now) (find_slot-with_mapping_other old.maps slot process number p n shown count free differ) ∙ of (find_slot old.maps p n) refl)
       where
@@ -210,23 +235,23 @@ SlotsFit-mapped state old new slot process number file first count writable f k 
             let apart : s ≢ slot = λ z. let bad : true ≡ false = sym passes ∙ ap (λ q. is_mapping p n (slot_at old.maps q)) z ∙ ap (is_mapping p n) free in cc in
             flat_mapping-same old.maps now s (there s apart) (λ index _. pinned_same s index)
 
-    len_more : finite.len (flat_with_mapping state process number (new_file file first writable count)).mappings ≡ finite.len state.mappings + 1
+    len_more : finite.len (flat_with_mapping state process number (new_flat flat count)).mappings ≡ finite.len state.mappings + 1
     len_more =
-        let new : mapping_at state process number ≡ None = f.flat process number ∙ ap (flat_found old.maps) k.none in
-        finite.len-insert places_total state.mappings (place_of process number) (new_file file first writable count)
+        let new : mapping_at state process number ≡ None = shape_none (mapping_at state process number) (f.flat process number ∙ ap (flat_found old.maps) k.none) in
+        finite.len-insert places_total state.mappings (place_of process number) (new_flat flat count)
         ∙ ap (λ (o : Option Mapping). cond (is_some o) (finite.len state.mappings) (finite.len state.mappings + 1)) new
 
 -- what the flat machine has of a mapping whose page is pinned, or unpinned
-abbrev pub pinned_state : FlatState → (process number : ℕ) → MapsView → ℕ → Slot → (index : ℕ) → Bool → FlatState
-pinned_state state process number maps slot mapping index pins = flat_with_mapping state process number (with_pin (flat_slot maps slot mapping) index pins)
+abbrev pub pinned_state : FlatState → (process number : ℕ) → Mapping → (index : ℕ) → Bool → FlatState
+pinned_state state process number its index pins = flat_with_mapping state process number (with_pin its index pins)
 
 has_below : (maps : MapsView) (slot : ℕ) (mapping : Slot) (index : ℕ) → slot_at maps slot ≡ Some mapping → slot_has_page (slot_at maps slot) index ≡ true → index < mapping.count
 has_below maps slot mapping index at has = ltb-true index mapping.count (ap (λ o. slot_has_page o index) (sym at) ∙ has)
 
-pub SlotsFit-pinned : (state : FlatState) (old new : Parts) (process number slot index : ℕ) (pins : Bool) → SlotsFit state old → (k : PinPlace old.maps process number slot index pins)
-    → PinChange old.maps new.maps slot index pins
-    → length new.pages.infos ≡ length old.pages.infos → new.cache.files ≡ old.cache.files → SlotsFit (pinned_state state process number old.maps slot k.mapping index pins) new
-SlotsFit-pinned state old new process number slot index pins f k change infos files = record {
+pub SlotsFit-pinned : (state : FlatState) (old new : Parts) (process number slot index : ℕ) (pins : Bool) (its : Mapping) → SlotsFit state old → (k : PinPlace old.maps process number slot index pins)
+    → mapping_at state process number ≡ Some its → PinChange old.maps new.maps slot index pins
+    → length new.pages.infos ≡ length old.pages.infos → new.cache.files ≡ old.cache.files → SlotsFit (pinned_state state process number its index pins) new
+SlotsFit-pinned state old new process number slot index pins its f k was change infos files = record {
   slots = rw slots f.slots;
   entries = ap length change.entries ∙ f.entries;
   pinned = change.size ∙ f.pinned;
@@ -234,7 +259,7 @@ SlotsFit-pinned state old new process number slot index pins f k change infos fi
   apart = λ s o mapping another e e'. f.apart s o mapping another (rw slots at e) (rw slots at e');
   flat = λ p n. elim (cases_eq p process) [
     | inl z ↦ elim (cases_eq n number) [
-      | inl y ↦ rw (z, y) (mapping_at-with_mapping state process number mine ∙ sym here)
+      | inl y ↦ rw (z, y) (ap shape_of (mapping_at-with_mapping state process number mine) ∙ shape_pinned its (flat_slot old.maps slot k.mapping) index pins shape ∙ sym here)
       | inr m ↦ other p n (λ q r. m r)
     ]
     | inr m ↦ other p n (λ q r. m q)
@@ -245,12 +270,12 @@ SlotsFit-pinned state old new process number slot index pins f k change infos fi
       ∙ f.counted
       ∙ ap (λ xs. of_live xs) (sym slots);
   some = λ s mapping e. f.some s mapping (rw slots at e);
-  shown = λ s mapping e. let its = f.shown s mapping (rw slots at e) in (its.0, rw files its.1);
+  shown = λ s mapping e. let shows = f.shown s mapping (rw slots at e) in (shows.0, shows-files old.cache new.cache mapping.shown mapping.count files shows.1);
   placed = λ s i lt e. placed s i lt e;
 }
   where
     mine : Mapping
-    mine = with_pin (flat_slot old.maps slot k.mapping) index pins
+    mine = with_pin its index pins
 
     of_live : List (Option Slot) → ℕ
     of_live xs = live_slots (record old.maps { slots = xs })
@@ -264,18 +289,18 @@ SlotsFit-pinned state old new process number slot index pins f k change infos fi
     found_same : (p n : ℕ) → find_slot new.maps p n ≡ find_slot old.maps p n
     found_same p n = ap (λ xs. position (is_mapping p n) xs) slots
 
-    was : mapping_at state process number ≡ Some (flat_slot old.maps slot k.mapping)
-    was = f.flat process number ∙ ap (flat_found old.maps) k.found ∙ ap (flat_mapping old.maps slot) k.at
+    shape : shape_of (Some its) ≡ Some (flat_slot old.maps slot k.mapping)
+    shape = ap shape_of (sym was) ∙ f.flat process number ∙ ap (flat_found old.maps) k.found ∙ ap (flat_mapping old.maps slot) k.at
 
-    here : flat_found new.maps (find_slot new.maps process number) ≡ Some mine
+    here : flat_found new.maps (find_slot new.maps process number) ≡ Some (with_pin (flat_slot old.maps slot k.mapping) index pins)
     here =
         ap (flat_found new.maps) (found_same process number ∙ k.found) ∙ ap (flat_mapping new.maps slot) (same slot ∙ k.at)
-        ∙ ap (λ q. let out : Option Mapping = Some (record { shown = flat_shown k.mapping.shown k.mapping.count; pins = q }) in out)
+        ∙ ap (λ q. let out : Option Mapping = Some (record { shown = flat_shown k.mapping.shown; pins = q }) in out)
         (pins_of-set old.maps new.maps slot k.mapping.count index pins k.below change.here (λ i lt n. change.others slot i (omega (arith, lt, (f.shown slot k.mapping k.at).0)) (λ z y. n y)))
 
-    other : (p n : ℕ) → (p ≡ process → n ≡ number → ⊥) → mapping_at (flat_with_mapping state process number mine) p n ≡ flat_found new.maps (find_slot new.maps p n)
+    other : (p n : ℕ) → (p ≡ process → n ≡ number → ⊥) → shape_of (mapping_at (flat_with_mapping state process number mine) p n) ≡ flat_found new.maps (find_slot new.maps p n)
     other p n differ =
-        mapping_at-with_mapping_other state process number mine p n (λ e. differ (ap (λ (x : Place). x.process) e) (ap (λ (x : Place). x.map) e))
+        ap shape_of (mapping_at-with_mapping_other state process number mine p n (λ e. differ (ap (λ (x : Place). x.process) e) (ap (λ (x : Place). x.map) e)))
         ∙ f.flat p n
         ∙ sym (ap (flat_found new.maps) (found_same p n) ∙ of (find_slot old.maps p n) refl)
       where
@@ -327,14 +352,14 @@ SlotsFit-torn state old slot process number f found = record {
       f.apart s o mapping another (sym (there s (still s mapping e live)) ∙ e) (sym (there o (still o another e' live')) ∙ e') live live';
   flat = λ p n. elim (cases_eq p process) [
     | inl z ↦ elim (cases_eq n number) [
-      | inl y ↦ rw (z, y) (mapping_at-without_mapping state process number ∙ sym (ap (flat_found now) gone))
+      | inl y ↦ rw (z, y) (ap shape_of (mapping_at-without_mapping state process number) ∙ sym (ap (flat_found now) gone))
       | inr m ↦ other p n (λ q r. m r)
     ]
     | inr m ↦ other p n (λ q r. m q)
   ];
   counted =
       finite.len-remove places_total state.mappings (place_of process number)
-      ∙ ap (λ (o : Option Mapping). cond (is_some o) (finite.len state.mappings - 1) (finite.len state.mappings)) was
+      ∙ ap (λ (o : Option Mapping). cond (is_some o) (finite.len state.mappings - 1) (finite.len state.mappings)) was.1
       ∙ omega (arith, f.counted, live_slots-torn_slot old.maps slot live);
   some = λ s mapping e. elim (cases_eq s slot) [
     | inl z ↦ rw (← here s mapping z e) (f.some slot k.mapping k.at)
@@ -382,12 +407,12 @@ SlotsFit-torn state old slot process number f found = record {
     gone : find_slot now process number ≡ None
     gone = find_slot-torn_slot_same old.maps slot process number (λ s is. alone s (slot_at old.maps s) refl is)
 
-    was : mapping_at state process number ≡ Some (flat_slot old.maps slot k.mapping)
-    was = f.flat process number ∙ ap (flat_found old.maps) found ∙ ap (flat_mapping old.maps slot) k.at
+    was : (its : Mapping) × (mapping_at state process number ≡ Some its) × (shape_of (Some its) ≡ Some (flat_slot old.maps slot k.mapping))
+    was = shape_some (mapping_at state process number) (flat_slot old.maps slot k.mapping) (f.flat process number ∙ ap (flat_found old.maps) found ∙ ap (flat_mapping old.maps slot) k.at)
 
-    other : (p n : ℕ) → (p ≡ process → n ≡ number → ⊥) → mapping_at (without_mapping state process number) p n ≡ flat_found now (find_slot now p n)
+    other : (p n : ℕ) → (p ≡ process → n ≡ number → ⊥) → shape_of (mapping_at (without_mapping state process number) p n) ≡ flat_found now (find_slot now p n)
     other p n differ =
-        mapping_at-without_mapping_other state process number p n (λ e. differ (ap (λ (x : Place). x.process) e) (ap (λ (x : Place). x.map) e))
+        ap shape_of (mapping_at-without_mapping_other state process number p n (λ e. differ (ap (λ (x : Place). x.process) e) (ap (λ (x : Place). x.map) e)))
         ∙ f.flat p n
         ∙ sym (ap (flat_found now) (find_slot-torn_slot_other old.maps slot p n not_its) ∙ flat_other old.maps now slot (find_slot old.maps p n) there pins apart)
       where

@@ -3,6 +3,7 @@ use Rattle.std.specs.Prelude.{nat_eq}
 use Rattle.std.proofs.Common.{◌≡◌, ◌≢◌, ◌<◌, ◌≤◌, ◌+◌, ℕ, zero, suc, Bool, not, List, [], ◌∷◌, length, get_or, cond, count_by, refl, ap, sym, ◌∙◌, inl, inr, arith}
 use Rattle.std.proofs.lemmas.Bool.{cases_eq}
 use Rattle.std.proofs.lemmas.Bool.Decides.{nat_tests}
+use Rattle.std.specs.List.{sum_by}
 use Rattle.std.proofs.lemmas.List.Sums.{sum_by-cons}
 use Rattle.guest_maps.specs.MapsView.{one_if}
 use Rattle.guest_rules.specs.Fit.{sum_below}
@@ -12,7 +13,7 @@ pub sum_below-mono : (f g : ℕ → ℕ) (count : ℕ) → ((i : ℕ) → i < co
 sum_below-mono f g zero each = omega arith
 sum_below-mono f g (suc count) each = omega (arith, sum_below-mono f g count (λ i h. each i (omega arith)), each count (omega arith))
 
-sum_below-add : (f g : ℕ → ℕ) (count : ℕ) → sum_below (λ i. f i + g i) count ≡ sum_below f count + sum_below g count
+pub sum_below-add : (f g : ℕ → ℕ) (count : ℕ) → sum_below (λ i. f i + g i) count ≡ sum_below f count + sum_below g count
 sum_below-add f g zero = refl
 sum_below-add f g (suc count) = omega (arith, sum_below-add f g count)
 
@@ -46,6 +47,23 @@ sum_below-fewer f few (suc count) within rest = elim (cases_eq few (suc count)) 
 sum_below-first : (f : ℕ → ℕ) (count : ℕ) → sum_below f (suc count) ≡ f 0 + sum_below (λ i. f (suc i)) count
 sum_below-first f zero = omega arith
 sum_below-first f (suc count) = omega (arith, sum_below-first f count)
+
+-- a sum over a list
+pub sum_below-list : {X : Type 0} (f : X → ℕ) (d : X) (xs : List X) → sum_by f xs ≡ sum_below (λ i. f (get_or xs i d)) (length xs)
+sum_below-list f d [] = refl
+sum_below-list f d (x ∷ xs) =
+    let first = sum_below-first (λ i. f (get_or (x ∷ xs) i d)) (length xs) in
+    sum_by-cons f x xs ∙ omega (arith, sum_below-list f d xs, first)
+
+-- where a sum isn't 0 one of its numbers isn't
+pub some_below : (f : ℕ → ℕ) (count : ℕ) → sum_below f count ≢ 0 → (i : ℕ) × (i < count) × (f i ≢ 0)
+some_below f zero some = absurd (some refl)
+some_below f (suc count) some = elim (cases_eq (f count) 0) [
+  | inl z ↦
+      let rest = some_below f count (λ none. some (omega (arith, none, z))) in
+      (rest.0, omega (arith, rest.1), rest.2)
+  | inr n ↦ (count, omega arith, n)
+]
 
 -- how many elements of a list pass a test
 pub count_below : {X : Type 0} (p : X → Bool) (d : X) (xs : List X) → count_by p xs ≡ sum_below (λ i. one_if (p (get_or xs i d))) (length xs)

@@ -6,6 +6,9 @@ use Rattle.cmm_types.specs.declared.command.Op.TheVariants.{Sync, Unmap}
 use Rattle.cmm_types.specs.declared.command.Reply.TheVariants.{Done}
 use Rattle.cmm_flat.specs.State.{FlatState}
 use Rattle.cmm_flat.specs.Legal.{command_of, process_of}
+use Rattle.cmm_types.specs.declared.page.Tag.TheVariants.{Anon}
+use Rattle.guest_cache.specs.CacheView.{CacheView, page_of, swap_slot}
+use Rattle.guest_rules.specs.declared.parts.Parts.{Parts}
 use Rattle.guest_maps.specs.declared.slot.Pte.{Pte}
 use Rattle.guest_maps.specs.declared.slot.Shown.{Shown}
 use Rattle.guest_maps.specs.declared.slot.Slot.{Slot}
@@ -200,9 +203,22 @@ locked-tears_nothing g cpu page (inr (inr pages_out)) = ap teardown_of pages_out
 
 -- ---- no teardown changes
 
+-- no page has the tag of a page of a mapping, and no swap slot is assigned to it
+abbrev pub IsUntagged : CacheView → (slot index : ℕ) → Type 0
+IsUntagged cache slot index = (page_of cache (Anon slot index) ≡ None) × (swap_slot cache (Anon slot index) ≡ None)
+
+-- what has been taken off a mapping that is torn down stays off
+abbrev pub KeepsUntagged : Parts → CacheView → Type 0
+KeepsUntagged old new = (slot index : ℕ) (mapping : Slot) → slot_at old.maps slot ≡ Some mapping → mapping.live ≡ false → index < mapping.count
+    → IsUntagged old.cache slot index → IsUntagged new slot index
+
+pub untagged-same : (old : Parts) (new : CacheView) → new ≡ old.cache → KeepsUntagged old new
+untagged-same old new same slot index mapping at torn below was = subst (λ (c : CacheView). IsUntagged c slot index) (sym same) was
+
 pub tearing-kept : (g h : GuestState) (cpu slot index : ℕ) → h.plan ≡ g.plan → length h.processors ≡ length g.processors → processor_at h cpu ≡ processor_at g cpu → IsTearing g cpu slot index
-    → slot_at h.parts.maps slot ≡ slot_at g.parts.maps slot → ((before : ℕ) → before < index → entry_at h.parts.maps slot before ≡ None) → IsTearing h cpu slot index
-tearing-kept g h cpu slot index plan count processor k same past = record {
+    → slot_at h.parts.maps slot ≡ slot_at g.parts.maps slot → ((before : ℕ) → before < index → entry_at h.parts.maps slot before ≡ None)
+    → ((before : ℕ) → before < index → IsUntagged h.parts.cache slot before) → IsTearing h cpu slot index
+tearing-kept g h cpu slot index plan count processor k same past untagged = record {
   cpu_below = rw count k.cpu_below;
   number = k.number;
   command = rw (plan, processor) k.command;
@@ -212,14 +228,17 @@ tearing-kept g h cpu slot index plan count processor k same past = record {
   its = (rw plan k.its.0, k.its.1);
   within = k.within;
   past = past;
+  untagged = untagged;
 }
 
-pub TeardownsFit-kept : (state : FlatState) (g h : GuestState) → SlotsFit state g.parts → TeardownsFit g → KeepsTearing g h → KeepsTorn g.parts.maps h.parts.maps → TeardownsFit h
-TeardownsFit-kept state g h slots f kept maps = record {
+pub TeardownsFit-kept : (state : FlatState) (g h : GuestState) → SlotsFit state g.parts → TeardownsFit g → KeepsTearing g h → KeepsTorn g.parts.maps h.parts.maps → KeepsUntagged g.parts h.parts.cache
+    → TeardownsFit h
+TeardownsFit-kept state g h slots f kept maps untagged = record {
   tearing = λ cpu slot index e.
       let k = f.tearing cpu slot index (before cpu slot index e) in
       tearing-kept g h cpu slot index kept.plan kept.count (kept.was cpu slot index e) k (maps.stays slot k.mapping k.at k.torn ∙ sym k.at)
-      (λ i lt. maps.none slot i k.mapping k.at k.torn (omega (arith, lt, k.within, (slots.shown slot k.mapping k.at).0)) (k.past i lt));
+      (λ i lt. maps.none slot i k.mapping k.at k.torn (omega (arith, lt, k.within, (slots.shown slot k.mapping k.at).0)) (k.past i lt))
+      (λ i lt. untagged slot i k.mapping k.at k.torn (omega (arith, lt, k.within)) (k.untagged i lt));
   torn = λ slot mapping at not_live.
       let k = f.torn slot mapping (maps.was slot mapping at not_live) not_live in
       (k.0, k.1, ap (λ (p : Processor). p.phase) (kept.stays k.0 slot k.1 k.2) ∙ k.2);
@@ -235,7 +254,7 @@ TeardownsFit-kept state g h slots f kept maps = record {
 -- ---- an unmap begins
 
 -- a processor's unmap of a live mapping of which no page is pinned
-pub record CanTear (g : GuestState) (cpu number slot : ℕ) : Type 0 where
+pub record CanUnmap (g : GuestState) (cpu number slot : ℕ) : Type 0 where
   pub below : cpu < length g.processors
   pub start : (processor_at g cpu).phase ≡ Start
   pub command : command_of g.plan cpu (processor_at g cpu).place ≡ Some (Unmap number)
@@ -246,7 +265,7 @@ pub record CanTear (g : GuestState) (cpu number slot : ℕ) : Type 0 where
   pub some : 1 ≤ mapping.count
   pub unpinned : (index : ℕ) → index < MAX_MAPPING_PAGES → pinned_at g.parts.maps slot index ≡ false
 
-pub TeardownsFit-begun : (g : GuestState) (cpu number slot : ℕ) → TeardownsFit g → CanTear g cpu number slot
+pub TeardownsFit-begun : (g : GuestState) (cpu number slot : ℕ) → TeardownsFit g → CanUnmap g cpu number slot
     → TeardownsFit (answered (with_parts g (record g.parts { maps = torn_slot g.parts.maps slot })) cpu (Unmap number) Done (Teardown slot 0))
 unfolding answered
 TeardownsFit-begun g cpu number slot f k = record {
@@ -258,7 +277,7 @@ TeardownsFit-begun g cpu number slot f k = record {
         subst (λ x. IsTearing h x s i) (sym z) (subst (λ x. IsTearing h cpu x i) s_is (subst (λ x. IsTearing h cpu slot x) i_is mine))
     | inr n ↦
         let was = f.tearing q s i (before q s i n e) in
-        tearing-kept g h q s i refl one.size (one.others q n) was (elsewhere s (apart s was.mapping was.at was.torn)) (λ j lt. entry_at-torn_slot g.parts.maps slot s j ∙ was.past j lt)
+        tearing-kept g h q s i refl one.size (one.others q n) was (elsewhere s (apart s was.mapping was.at was.torn)) (λ j lt. entry_at-torn_slot g.parts.maps slot s j ∙ was.past j lt) was.untagged
   ];
   torn = λ s m at not_live. elim (cases_eq s slot) [
     | inl z ↦ (cpu, 0, now ∙ ap (λ x. Teardown x 0) (sym z))
@@ -321,22 +340,23 @@ TeardownsFit-begun g cpu number slot f k = record {
       its = k.its;
       within = omega (arith, k.some);
       past = λ j lt. absurd (omega (arith, lt));
+      untagged = λ j lt. absurd (omega (arith, lt));
     }
 
 -- ---- an unmap goes on
 
 -- the page that it is at has no entry
 pub TeardownsFit-next : (g : GuestState) (cpu slot index : ℕ) → TeardownsFit g → (processor_at g cpu).phase ≡ Teardown slot index → (k : IsTearing g cpu slot index)
-    → entry_at g.parts.maps slot index ≡ None → index + 1 < k.mapping.count → TeardownsFit (with_phase g cpu (Teardown slot (index + 1)))
+    → entry_at g.parts.maps slot index ≡ None → IsUntagged g.parts.cache slot index → index + 1 < k.mapping.count → TeardownsFit (with_phase g cpu (Teardown slot (index + 1)))
 unfolding with_phase
-TeardownsFit-next g cpu slot index f phase k none more = record {
+TeardownsFit-next g cpu slot index f phase k none bare more = record {
   tearing = λ q s i e. elim (cases_eq q cpu) [
     | inl z ↦
         let both : Teardown slot (index + 1) ≡ Teardown s i = sym now ∙ ap (λ x. (processor_at h x).phase) (sym z) ∙ e in
         let s_is : slot ≡ s = cc in
         let i_is : index + 1 ≡ i = cc in
         subst (λ x. IsTearing h x s i) (sym z) (subst (λ x. IsTearing h cpu x i) s_is (subst (λ x. IsTearing h cpu slot x) i_is mine))
-    | inr n ↦ let was = f.tearing q s i (before q s i n e) in tearing-kept g h q s i refl one.size (one.others q n) was refl was.past
+    | inr n ↦ let was = f.tearing q s i (before q s i n e) in tearing-kept g h q s i refl one.size (one.others q n) was refl was.past was.untagged
   ];
   torn = λ s m at not_live.
       let was = f.torn s m at not_live in
@@ -390,6 +410,10 @@ TeardownsFit-next g cpu slot index f phase k none more = record {
         | inl z ↦ ap (entry_at g.parts.maps slot) z ∙ none
         | inr n ↦ k.past j (omega (arith, lt, n))
       ];
+      untagged = λ j lt. elim (cases_eq j index) [
+        | inl z ↦ subst (IsUntagged g.parts.cache slot) (sym z) bare
+        | inr n ↦ k.untagged j (omega (arith, lt, n))
+      ];
     }
 
 -- ---- an unmap ends
@@ -402,7 +426,7 @@ TeardownsFit-ended g cpu slot index f phase k = record {
       let n = other q s i e in
       let was = f.tearing q s i (before q s i n e) in
       tearing-kept g h q s i refl one.size (one.others q n) was (elsewhere s (apart q s i n (before q s i n e)))
-      (λ j lt. ap (λ xs. slice_index_or xs (place_at s j) None) (entries-freed_slot g.parts.maps slot) ∙ was.past j lt);
+      (λ j lt. ap (λ xs. slice_index_or xs (place_at s j) None) (entries-freed_slot g.parts.maps slot) ∙ was.past j lt) was.untagged;
   torn = λ s m at not_live.
       let n = there s m at in
       let was = f.torn s m (sym (elsewhere s n) ∙ at) not_live in

@@ -5,7 +5,11 @@ use Rattle.std.proofs.lemmas.List.{length-map, length-replicate}
 use Rattle.std.proofs.lemmas.List.FromFn.{length-range_with_len, get_or-range_with_len}
 use Rattle.std.proofs.lemmas.List.Sums.{sum_by-cons}
 use Rattle.cmm_types.specs.declared.page.TheConstants.{PAGE}
-use Rattle.cmm_types.specs.declared.page.Tag.TheVariants.{File}
+use Rattle.std.specs.FinMap as finite
+use Rattle.cmm_types.specs.declared.page.Tag.{Tag}
+use Rattle.cmm_types.specs.declared.page.Tag.TheVariants.{File, Anon}
+use Rattle.cmm_flat.specs.Laws.SoundLaws.{sound_without}
+use Rattle.guest_rules.proofs.Kept.FlatTags.{is_own}
 use Rattle.cmm_types.specs.declared.plan.TheConstants.{MAX_MAPPING_SLOTS}
 use Rattle.cmm_types.specs.declared.plan.CpuPlan.{CpuPlan}
 use Rattle.cmm_types.specs.declared.plan.GuestPlan.{GuestPlan}
@@ -26,13 +30,12 @@ use Rattle.guest_rules.specs.declared.parts.Parts.{Parts}
 use Rattle.guest_rules.specs.declared.processor.Phase.TheVariants.{Start, Fill, Room as AtRoom, Sync as AtSync, SyncWrite, Teardown}
 use Rattle.guest_rules.specs.declared.processor.Processor.{Processor}
 use Rattle.guest_rules.specs.GuestState.{first_processor, processor_at, opening_guest}
-use Rattle.guest_rules.specs.Built.{GuestIsBuilt}
 use Rattle.guest_rules.specs.Fresh.{AreFresh}
-use Rattle.guest_rules.specs.Fit.{PagesFit, LocksFit, TeardownsFit, FlatFit, JournalFit, FaultsFit, Fit, backing, current_at, one_if_lost, commands_of, entries_of}
+use Rattle.guest_rules.specs.Fit.{PagesFit, LocksFit, TeardownsFit, FlatFit, JournalFit, FaultsFit, Fit, IsFlatTag, flat_page, backing, current, current_at, one_if_lost, commands_of, entries_of}
 use Rattle.guest_rules.proofs.Kept.Faults.{sum_below-le}
 use Rattle.guest_rules.proofs.Kept.PageFits.{EachPageFits, PageFits-free, HintsFit-from, ContentsFit-from}
-use Rattle.guest_rules.proofs.Kept.PinsKept.{PinsFit-from}
-use Rattle.guest_rules.proofs.Opening.OpeningMaps.{none_slot, SlotsFit-opening, EntriesFit-opening, PinsStand-opening, info-opening}
+use Rattle.guest_rules.proofs.Kept.TagsKept.{TagsFit-from}
+use Rattle.guest_rules.proofs.Opening.OpeningMaps.{none_slot, SlotsFit-opening, EntriesFit-opening, PinsFit-opening, TagsStand-opening, info-opening}
 use Rattle.guest_rules.proofs.Opening.OpeningFiles.{planned_pages, opening-page, opening-lengths}
 
 -- a list of one value, read at that value as default
@@ -99,6 +102,7 @@ JournalFit-opening plan = record {
   places = λ cpu below. ap (λ (p : Progress). p.next) (all-same plan.cpus at_first cpu) ∙ sym (entries cpu);
   within = λ cpu below. subst (λ n. n ≤ commands_of plan cpu) (sym (entries cpu)) (omega arith);
   counted = sym (no_entry plan.cpus);
+  ended = λ cpu slot index phase. (let bad : Start ≡ Teardown slot index = ap (λ (p : Processor). p.phase) (sym (processor-opening plan cpu)) ∙ phase in absurd cc);
 }
   where
     entries : (cpu : ℕ) → entries_of (processor_at (opening_guest plan) cpu) ≡ 0
@@ -110,11 +114,10 @@ FaultsFit-opening plan v fresh =
     (λ page below. subst (λ x. one_if_lost x + 0 ≤ x.count + 0) (sym (fresh page below)) (omega arith)) in
     omega (arith, sums)
 
-pub Fit-opening : (plan : GuestPlan) (v : StorageView) (d : DiskView) → GuestInRange plan → GuestIsBuilt plan → AreFresh plan v d → Fit (opening_guest plan) v d
-Fit-opening plan v d range built fresh = record {
+pub Fit-opening : (plan : GuestPlan) (v : StorageView) (d : DiskView) → GuestInRange plan → AreFresh plan v d → Fit (opening_guest plan) v d
+Fit-opening plan v d range fresh = record {
   sizes = record {
     range = range;
-    built = built;
     infos = length-replicate plan.pages free_info;
     pages = fresh.pages;
     processors = length-map plan.cpus (λ cpu. first_processor);
@@ -127,7 +130,8 @@ Fit-opening plan v d range built fresh = record {
   pages = PagesFit-opening plan;
   slots = SlotsFit-opening plan;
   entries = EntriesFit-opening plan;
-  pins = PinsFit-from parts v d (PinsStand-opening plan) fits;
+  pins = PinsFit-opening plan;
+  tags = TagsFit-from parts v d (TagsStand-opening plan) fits;
   locks = LocksFit-opening plan;
   teardowns = TeardownsFit-opening plan;
   hints = HintsFit-from parts v d fresh.none_held fits;
@@ -160,7 +164,12 @@ Fit-opening plan v d range built fresh = record {
     backed : FlatFit flat (opening_guest plan) v d
     backed = record {
       lengths = opening-lengths plan.files range.files.each;
-      pages = λ file index is.
-          let none = page_of-opening (planned_pages plan.files) plan.swap MAX_MAPPING_SLOTS (File file index) is in
-          block file index is ∙ ap (λ o. current_at parts v o (backing parts.cache d (File file index))) (sym none);
+      sound = sound_without (opening plan.files).files finite.empty refl;
+      pages = of;
     }
+      where
+        of : (tag : Tag) → IsFlatTag parts tag → flat_page flat parts.maps tag ≡ current parts v d tag
+        of (File file index) is =
+            let none = page_of-opening (planned_pages plan.files) plan.swap MAX_MAPPING_SLOTS (File file index) is in
+            block file index is ∙ ap (λ o. current_at parts v o (backing parts.cache d (File file index))) (sym none)
+        of (Anon slot index) is = let k = is_own parts.maps slot index is in absurd (none_slot plan slot k.mapping k.at)

@@ -5,6 +5,7 @@ use Rattle.std.proofs.lemmas.Bool.{cases_lt}
 use Rattle.std.proofs.lemmas.List.{get_or-replicate, get_or_past, length-replicate}
 use Rattle.cmm_types.specs.declared.command.TheConstants.{MAX_MAPPING_PAGES}
 use Rattle.cmm_types.specs.declared.plan.TheConstants.{MAX_MAPPING_SLOTS}
+use Rattle.cmm_types.specs.declared.page.Tag.{Tag}
 use Rattle.cmm_types.specs.declared.plan.GuestPlan.{GuestPlan}
 use Rattle.cmm_flat.specs.declared.mapping.Mapping.{Mapping}
 use Rattle.cmm_flat.specs.Mapping.{place_cmp}
@@ -16,8 +17,8 @@ use Rattle.guest_maps.specs.declared.slot.Slot.{Slot}
 use Rattle.guest_maps.specs.MapsView.{slot_at, entry_at, pinned_at, opening_maps}
 use Rattle.guest_maps.specs.Laws.MapsLaws.{slot_at-opening, find_slot-opening, live_slots-opening, entry_at-opening, pinned_at-opening, writers_showing-opening}
 use Rattle.guest_rules.specs.GuestState.{opening_guest}
-use Rattle.guest_rules.specs.Fit.{SlotsFit, EntriesFit, flat_found}
-use Rattle.guest_rules.proofs.Kept.PinsKept.{PinsStand}
+use Rattle.guest_rules.specs.Fit.{SlotsFit, EntriesFit, PinsFit, shape_of, flat_found}
+use Rattle.guest_rules.proofs.Kept.TagsKept.{TagsStand}
 
 -- a list of one value has no other
 pub all-one : {X : Type 0} (count : ℕ) (x : X) (i : ℕ) → get_or (replicate count x) i x ≡ x
@@ -48,7 +49,7 @@ SlotsFit-opening plan = record {
   pages = sym (length-replicate plan.pages free_info);
   apart = λ slot other mapping another e e' live live' process number. absurd (none_slot plan slot mapping e);
   flat = λ process number.
-      finite.get-empty place_cmp (place_of process number)
+      ap shape_of (finite.get-empty place_cmp (place_of process number))
       ∙ sym (ap (flat_found (opening_maps plan.pages MAX_MAPPING_SLOTS)) (find_slot-opening plan.pages MAX_MAPPING_SLOTS process number));
   counted = finite.len-empty place_cmp Mapping ∙ sym (live_slots-opening plan.pages MAX_MAPPING_SLOTS);
   some = λ slot mapping e. absurd (none_slot plan slot mapping e);
@@ -62,8 +63,18 @@ EntriesFit-opening plan = record {
   writers = λ page. ap (λ (i : PageInfo). i.writers) (info-opening plan.pages page) ∙ sym (writers_showing-opening plan.pages MAX_MAPPING_SLOTS page);
 }
 
-pub PinsStand-opening : (plan : GuestPlan) → PinsStand (opening_guest plan).parts
-PinsStand-opening plan = record {
+pub PinsFit-opening : (plan : GuestPlan) → PinsFit (opening_guest plan).parts
+PinsFit-opening plan = record {
   counted = λ page tag some. let bad : None ≡ Some tag = ap (λ (i : PageInfo). i.tag) (sym (info-opening plan.pages page)) ∙ some in absurd cc;
   kept = λ slot index tag below e mapped. absurd (none_pinned plan slot index e);
 }
+
+pub TagsStand-opening : (plan : GuestPlan) → TagsStand (opening_guest plan).parts
+TagsStand-opening plan = record {
+  pages = λ page tag some. let bad : None ≡ Some tag = ap (λ (i : PageInfo). i.tag) (sym (info-opening plan.pages page)) ∙ some in absurd cc;
+  swapped = λ number tag e. absurd (none_swapped number tag e);
+  distinct = λ number other tag e e'. absurd (none_swapped number tag e);
+}
+  where
+    none_swapped : (number : ℕ) (tag : Tag) → get_or (replicate plan.swap None) number None ≡ Some tag → ⊥
+    none_swapped number tag e = let bad : None ≡ Some tag = sym (all-one plan.swap None number) ∙ e in cc

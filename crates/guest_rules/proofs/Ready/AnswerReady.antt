@@ -1,8 +1,13 @@
 -- What the words of the calls ask of a page stands for the pages that a guest between two turns passes to them.
-use Rattle.std.specs.Prelude.{◌≡◌, ℕ, Some, refl}
-use Rattle.std.proofs.Common.{inr, ◌∙◌}
+use Rattle.std.specs.Prelude.{◌≡◌, ◌⊎◌, ℕ, true, Some, IsSome, is_some, refl}
+use Rattle.std.proofs.Common.{ap, inl, inr, ◌∙◌}
 use Rattle.cmm_types.specs.declared.page.Tag.{Tag}
-use Rattle.cmm_types.specs.declared.page.Tag.TheVariants.{File}
+use Rattle.cmm_types.specs.declared.page.Tag.TheVariants.{File, Anon}
+use Rattle.guest_pages.specs.PagesView.{info_at}
+use Rattle.guest_cache.specs.CacheView.{backing_of}
+use Rattle.guest_rules.specs.Rows.{backing_at}
+use Rattle.guest_rules.proofs.Kept.PageFits.{IsDirtyOrSlotted}
+use Rattle.guest_rules.proofs.Kept.SwapLaws.{has_slot-block}
 use Rattle.cmm_io.specs.DiskView.{DiskView}
 use Rattle.cmm_flat.specs.State.{FlatState}
 use Rattle.cmm_storage.specs.StorageView.{StorageView}
@@ -16,7 +21,7 @@ use Rattle.guest_rules.proofs.Cases.TurnCases.{ShowsPage}
 use Rattle.guest_rules.proofs.Cases.CaseTear.{torn_page}
 use Rattle.guest_rules.proofs.Kept.Unshown.{stale-unshown}
 use Rattle.guest_rules.proofs.Kept.Unpinned.{stale-unpinned}
-use Rattle.guest_rules.proofs.Ready.Ready.{HasToWrite, writing-has, paging_out-has, can_be_shown, can_be_filled, can_write_out}
+use Rattle.guest_rules.proofs.Ready.Ready.{HasToWrite, writing-has, paging_out-has, below_view, can_be_shown, can_be_filled, can_write_out}
 
 -- a page with a tag that is up to date
 pub shown-ready : (state : FlatState) (g : GuestState) (v : StorageView) (d : DiskView) (page : ℕ) (tag : Tag) → FitAt state g v d → ShowsPage g tag page → HasBeenFilled g.parts page v
@@ -66,14 +71,23 @@ pub page_out-ready : (state : FlatState) (g : GuestState) (v : StorageView) (d :
 page_out-ready state g v d cpu page f phase =
     let k = f.locks.paging_out cpu page phase in write-ready state g v d cpu page k.tag f (paging_out-has g cpu page k)
 
--- a page that may go can be written out: each tag is of a file, which has its block
+-- a page that may go can be written out: a file's page has its block, and an anonymous page that is changed is dirty or has a swap slot
 pub go-ready : (state : FlatState) (g : GuestState) (v : StorageView) (d : DiskView) (page : ℕ) (tag : Tag) → FitAt state g v d → ShowsPage g tag page → CanBeWrittenOut g.parts page v
 go-ready state g v d page tag f shows =
-    let its = f.pins.of_files page tag shows.tagged in
     record {
       filled = shown-ready state g v d page tag f shows;
-      backed_by = λ changed. inr (rw (shows.tagged, its.2) refl);
+      backed_by = λ changed. of tag shows.tagged changed;
     }
+  where
+    of : (t : Tag) → (info_at g.parts.pages page).tag ≡ Some t → (v.values page).changed ≡ true → ((info_at g.parts.pages page).dirty ≡ true) ⊎ IsSome (backing_at g.parts page)
+    of (File file index) e changed = inr (rw e refl)
+    of (Anon slot index) e changed = by (f.tags.written page slot index (below_view state g v d page f shows.below) e (inl changed))
+      where
+        by : IsDirtyOrSlotted g.parts.cache (info_at g.parts.pages page) slot index → ((info_at g.parts.pages page).dirty ≡ true) ⊎ IsSome (backing_at g.parts page)
+        by (inl dirty) = inl dirty
+        by (inr some) =
+            let at : backing_at g.parts page ≡ backing_of g.parts.cache (Anon slot index) = rw e refl in
+            inr (ap (λ o. is_some o) (at ∙ (has_slot-block g.parts.cache slot index some).1))
 
 -- the page whose entry an unmap clears
 pub clear-ready : (state : FlatState) (g : GuestState) (v : StorageView) (d : DiskView) (cpu slot index : ℕ) (pte : Pte) → FitAt state g v d

@@ -1,6 +1,6 @@
 -- What a guest between two turns gives the calls of the next.
 use Rattle.std.specs.Prelude.{◌≡◌, ◌<◌, ℕ, ◌+◌, length, Bool, true, false, Option, Some, None, refl}
-use Rattle.std.proofs.Common.{arith, ap, sym, ◌∙◌}
+use Rattle.std.proofs.Common.{arith, ap, sym, subst, ◌∙◌}
 use Rattle.cmm_types.specs.declared.page.Usage.TheVariants.{S, V}
 use Rattle.cmm_types.specs.declared.page.Tag.{Tag}
 use Rattle.cmm_types.specs.declared.page.Tag.TheVariants.{File}
@@ -9,15 +9,14 @@ use Rattle.cmm_flat.specs.State.{FlatState}
 use Rattle.essa_state.specs.PageValue.{PageValue, MayBecome, is_lost}
 use Rattle.cmm_storage.specs.StorageView.{StorageView}
 use Rattle.guest_pages.specs.declared.info.PageInfo.{PageInfo}
-use Rattle.guest_pages.specs.PagesView.{info_at, with_info, with_dirty, with_uptodate, with_owner, with_pins, with_writers}
+use Rattle.guest_pages.specs.PagesView.{info_at, with_info, with_dirty, with_uptodate, with_owner, with_pins}
 use Rattle.guest_pages.specs.Laws.PagesLaws.{info_at-with_info_same, length-with_info}
 use Rattle.guest_cache.specs.CacheView.{IsTag, page_of, pages_before, backing_of}
 use Rattle.guest_rules.specs.declared.parts.Parts.{Parts}
 use Rattle.guest_rules.specs.declared.processor.Phase.TheVariants.{Fill}
 use Rattle.guest_rules.specs.Hint.{hint}
 use Rattle.guest_rules.specs.GuestState.{GuestState, processor_at}
-use Rattle.guest_rules.specs.Rows.{mapped, pinned, pins_after, filled}
-use Rattle.guest_maps.specs.MapsView.{one_if}
+use Rattle.guest_rules.specs.Rows.{shown_info, mapped, pinned, pins_after, filled}
 use Rattle.guest_rules.specs.Fit.{FitAt, IsWriting, IsPagingOut}
 use Rattle.guest_rules.proofs.Cases.TurnCases.{HasPage, ShowsPage}
 use Rattle.guest_rules.specs.Syncs.{unlocked, cleaned}
@@ -50,10 +49,11 @@ is_used parts page tag below tagged true = hint-tagged _ tag (ap (λ q. q.tag) (
 
 pub is_used_mapped : (parts : Parts) (page slot index : ℕ) (writable : Bool) (tag : Tag) → page < length parts.pages.infos → (info_at parts.pages page).tag ≡ Some tag
     → IsUsed (mapped parts page slot index writable) page
-unfolding mapped with_writers
+unfolding mapped
 is_used_mapped parts page slot index writable tag below tagged =
-    let info = record (info_at parts.pages page) { writers = (info_at parts.pages page).writers + one_if writable } in
-    is_used (mapped parts page slot index writable) page tag (rw (length-with_info parts.pages page info) below) (ap (λ q. q.tag) (info_at-with_info_same parts.pages page info below) ∙ tagged)
+    let info = shown_info (info_at parts.pages page) writable in
+    is_used (mapped parts page slot index writable) page tag (subst (λ n. page < n) (sym (length-with_info parts.pages page info)) below)
+    (ap (λ q. q.tag) (info_at-with_info_same parts.pages page info below) ∙ tagged)
 
 pub is_used_pinned : (parts : Parts) (page slot index : ℕ) (pins : Bool) (tag : Tag) → page < length parts.pages.infos → (info_at parts.pages page).tag ≡ Some tag
     → IsUsed (pinned parts page slot index pins) page

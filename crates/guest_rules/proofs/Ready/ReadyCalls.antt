@@ -11,7 +11,7 @@ use Rattle.cmm_types.specs.declared.plan.CpuPlan.{CpuPlan}
 use Rattle.cmm_types.specs.declared.plan.GuestPlan.{GuestPlan}
 use Rattle.cmm_types.specs.declared.command.TheConstants.{MAX_MAPPING_NUMBERS, MAX_MAPPING_PAGES}
 use Rattle.cmm_types.specs.declared.command.Op.{Op}
-use Rattle.cmm_types.specs.declared.command.Op.TheVariants.{Read, MapFile, Unmap, Load, Store, Pin, Unpin, Sync}
+use Rattle.cmm_types.specs.declared.command.Op.TheVariants.{Read, MapFile, MapAnon, Unmap, Load, Store, Pin, Unpin, Sync}
 use Rattle.cmm_types.specs.InRange.{GuestInRange, ArePages, IsPiece, file_pages_of}
 use Rattle.cmm_io.specs.DiskView.{DiskView}
 use Rattle.essa_state.specs.StateWord.{is_unused}
@@ -41,7 +41,7 @@ use Rattle.guest_rules.proofs.Cases.Placed.{pin-place}
 use Rattle.guest_rules.proofs.Cases.CaseTear.{torn_page}
 use Rattle.guest_rules.proofs.Cases.Stuck.{full-tagged}
 use Rattle.guest_rules.proofs.Ready.Ready.{below_view, can_be_written, can_be_paged_out}
-use Rattle.guest_rules.specs.Turns.{file_pages}
+use Rattle.guest_rules.specs.Turns.{file_pages, file_has_bytes}
 use Rattle.guest_rules.proofs.Cases.FileSizes.{file_pages-some, file_pages-most}
 use Rattle.guest_rules.proofs.Cases.Reached.{Reaches, entry_page, has_free_slot}
 
@@ -144,7 +144,17 @@ pub map-free : (g : GuestState) (v : StorageView) (d : DiskView) (cpu number fil
 map-free g v d cpu number file first count writable f starts = of (free_slot g.parts.maps) refl
   where
     of : (o : Option ℕ) → free_slot g.parts.maps ≡ o → IsSome o
-    of None e = absurd (has_free_slot (flat_of g.plan g.journal) g v d cpu number file first count writable f starts e)
+    of None e =
+        absurd (has_free_slot (flat_of g.plan g.journal) g v d (file_has_bytes g.plan.files file (PAGE * first) (PAGE * count))
+        (find_slot g.parts.maps (process_of g.plan cpu) number) f starts.accepted e)
+    of (Some slot) e = refl
+
+-- also for pages of its own
+pub map_own-free : (g : GuestState) (v : StorageView) (d : DiskView) (cpu number count : ℕ) → Fit g v d → Starts g cpu (MapAnon number count) → IsSome (free_slot g.parts.maps)
+map_own-free g v d cpu number count f starts = of (free_slot g.parts.maps) refl
+  where
+    of : (o : Option ℕ) → free_slot g.parts.maps ≡ o → IsSome o
+    of None e = absurd (has_free_slot (flat_of g.plan g.journal) g v d true (find_slot g.parts.maps (process_of g.plan cpu) number) f starts.accepted e)
     of (Some slot) e = refl
 
 -- a sync that isn't refused begins with page 0 of its file

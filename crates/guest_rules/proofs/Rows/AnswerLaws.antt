@@ -2,6 +2,7 @@
 use Rattle.std.specs.Prelude.{◌≡◌, ◌<◌, ◌-◌, ◌||◌, ℕ, List, length, Bool, true, false, Option, Some, None, Result, Ok, Err, refl}
 use Rattle.std.proofs.Common.{sym, ap, subst, inl, inr, ◌∙◌, ⊎_elim}
 use Rattle.cmm_types.specs.declared.page.Usage.TheVariants.{S, V}
+use Rattle.cmm_types.specs.declared.page.Tag.TheVariants.{Anon}
 use Rattle.cmm_types.specs.declared.command.Cause.TheVariants.{Disk, Paging, NoPage}
 use Rattle.cmm_io.specs.DiskView.{DiskView}
 use Rattle.essa_state.specs.PageValue.{PageValue, IsMadeUnused}
@@ -12,7 +13,7 @@ use Rattle.cmm_storage.specs.Views.{Seen, does_seen}
 use Rattle.guest_pages.specs.declared.info.PageInfo.{PageInfo}
 use Rattle.guest_pages.specs.PagesView.{info_at, with_pins}
 use Rattle.guest_pages.specs.Laws.PagesLaws.{info_at-with_info_same, length-with_info}
-use Rattle.guest_cache.specs.CacheView.{backing_of}
+use Rattle.guest_cache.specs.CacheView.{page_of, swap_slot, unassigned, backing_of}
 use Rattle.guest_maps.specs.declared.slot.Pte.{Pte}
 use Rattle.guest_maps.specs.MapsView.{entries_showing, with_entry, with_pinned, one_if}
 use Rattle.guest_maps.specs.Laws.MapsLaws.{entries_showing-without_same}
@@ -27,12 +28,15 @@ use Rattle.guest_rules.specs.declared.outcome.Placed.TheVariants.{Done as PlaceD
 use Rattle.guest_rules.specs.declared.outcome.Synced.{Synced}
 use Rattle.guest_rules.specs.declared.outcome.Synced.TheVariants.{Clean, Locked, Gone as SyncGone, Waits, Again as SyncAgain}
 use Rattle.guest_rules.specs.Hint.{hint}
-use Rattle.guest_rules.specs.Rows.{freed, handled, handler, rehint, tell, make_stable, read_page, write_page, load_page, store_through, pinned, pin_page, pins_after, mapped, resolve, unmapped, clear_entry, filled, fill, backing_at, with_change}
+use Rattle.guest_rules.specs.Rows.{freed, handled, handler, rehint, tell, make_stable, read_page, write_page, load_page, store_through, pinned, pin_page, pins_after, mapped, resolve, unmapped, clear_entry, released, tear_page, filled, fill, backing_at, with_change}
 use Rattle.guest_rules.specs.Syncs.{locked, unlocked, cleaned, sync_page, sync_owned, write_back}
-use Rattle.guest_rules.specs.Answers.{HasTag, CanBeTold, HasBeenFilled, IsToBeFilled, IsToBeWritten, IsFree, IsHandled, WasDiscarded, MayBeDirty, IsHinted, IsRetold, StableAnswer, MissedAnswer, EntryMissed, ReadAnswer, WriteAnswer, LoadAnswer, StoreAnswer, PinAnswer, ResolveAnswer, ClearAnswer, FillAnswer, LookAnswer, SyncAnswer, IsUnlocked, BackAnswer}
+use Rattle.guest_rules.specs.Calls.{CanTear}
+use Rattle.guest_rules.specs.Answers.{HasTag, CanBeTold, HasBeenFilled, IsToBeFilled, IsToBeWritten, IsFree, IsHandled, WasDiscarded, MayBeDirty, IsHinted, IsRetold, StableAnswer, MissedAnswer, EntryMissed, ReadAnswer, WriteAnswer, LoadAnswer, StoreAnswer, PinAnswer, ResolveAnswer, ClearAnswer, TearAnswer, FillAnswer, LookAnswer, SyncAnswer, IsUnlocked, BackAnswer}
 use Rattle.guest_rules.proofs.Cases.TurnCases.{IsRehinted}
 use Rattle.guest_rules.proofs.Rows.ValueLaws.{hint-stale}
-use Rattle.guest_rules.proofs.Kept.RowChanges.{change-freed, freed-free, freed-maps, handled-pages, handled-maps, change-changed, change-filled, filled_info, change-unmapped, maps-unmapped}
+use Rattle.guest_rules.proofs.Kept.RowChanges.{change-freed, freed-free, freed-cache, freed-faults, freed-maps, handled-pages, handled-maps, change-changed, change-filled, filled_info, change-unmapped, maps-unmapped}
+use Rattle.guest_rules.proofs.Kept.TeardownsKept.{IsUntagged}
+use Rattle.guest_rules.proofs.Kept.Untagged.{untagged-torn_off}
 use Rattle.guest_rules.proofs.Kept.SyncTables.{change-locked, change-unlocked, change-cleaned}
 use Rattle.guest_rules.proofs.Rows.Held.{Stabled, rehinted_value, seen_handler, seen_make_stable, seen_rehint}
 use Rattle.guest_rules.proofs.Rows.Taken.{CanBeUsed, WasDiscarded as FoundDiscarded}
@@ -45,6 +49,7 @@ use Rattle.guest_rules.proofs.Rows.EntryPage.{EntryMiss, LoadOutcome, StoreOutco
 use Rattle.guest_rules.proofs.Rows.PinPage.{PinOutcome, seen_pin_page}
 use Rattle.guest_rules.proofs.Rows.ResolvePage.{ResolveOutcome, seen_resolve}
 use Rattle.guest_rules.proofs.Rows.ClearEntry.{ClearOutcome, seen_clear_entry, is_used_unmapped}
+use Rattle.guest_rules.proofs.Rows.TearPage.{TearOutcome, seen_tear_page}
 use Rattle.guest_rules.proofs.Rows.FillPage.{CanBeFilled, FillOutcome, seen_fill}
 use Rattle.guest_rules.proofs.Rows.SyncPage.{LookOutcome, seen_look}
 use Rattle.guest_rules.proofs.Rows.WriteBack.{CanBeWritten, BackOutcome, seen_write_back}
@@ -314,6 +319,42 @@ clear-says parts slot index pte v d a r w e can run =
       hinted-is middle pte.page found a w k.rehinted,
     )
     of PlaceGone k = discarded-is parts pte.page v w d e a can.has.below k
+    of (PlaceAgain why) (tables, may, misses, disk) = (tables, misses)
+
+-- ---- a page that is taken off its mapping
+
+released-cache : (parts : Parts) (slot index : ℕ) → (released parts slot index).cache ≡ unassigned parts.cache (swap_slot parts.cache (Anon slot index))
+unfolding released
+released-cache parts slot index = refl
+
+released-faults : (parts : Parts) (slot index : ℕ) → (released parts slot index).faults ≡ parts.faults
+unfolding released
+released-faults parts slot index = refl
+
+released-is_free : (parts : Parts) (slot index page : ℕ) → IsFree parts page → IsFree (released parts slot index) page
+unfolding released
+released-is_free parts slot index page is = record { bare = is.bare; unshown = is.unshown; next = is.next }
+
+-- neither a page nor a swap slot has its tag
+torn_off-untagged : (parts : Parts) (v : StorageView) (slot index page : ℕ) → CanTear parts v slot index page → IsUntagged (released (freed parts page) slot index).cache slot index
+torn_off-untagged parts v slot index page can =
+    subst (λ c. IsUntagged c slot index)
+    (sym (released-cache (freed parts page) slot index ∙ ap (λ c. unassigned c (swap_slot c (Anon slot index))) (freed-cache parts page (Anon slot index) can.tagged)))
+    (untagged-torn_off parts.cache slot index can.once.same)
+
+pub tear-says : (parts : Parts) (slot index page : ℕ) (v : StorageView) (d : DiskView) (a : Parts) (r : Placed) (w : StorageView) (e : DiskView)
+    → CanTear parts v slot index page → Seen (tear_page parts slot index page) v d (a, r) w e → TearAnswer parts slot index page v a r w
+tear-says parts slot index page v d a r w e can run = of r (seen_tear_page parts slot index page v d a r w e run)
+  where
+    of : (r : Placed) → TearOutcome parts slot index page v d a r w e → TearAnswer parts slot index page v a r w
+    of PlaceDone k = record {
+      free = subst (λ q. IsFree q page) (sym k.tables) (released-is_free (freed parts page) slot index page (freed-is_free parts page can.takes.in_use.below));
+      pageless = ap (λ (q : Parts). page_of q.cache (Anon slot index)) k.tables ∙ (torn_off-untagged parts v slot index page can).0;
+      slotless = ap (λ (q : Parts). swap_slot q.cache (Anon slot index)) k.tables ∙ (torn_off-untagged parts v slot index page can).1;
+      unused = k.unused.usage;
+      faults = ap (λ (q : Parts). q.faults) k.tables ∙ released-faults (freed parts page) slot index ∙ freed-faults parts page;
+    }
+    of PlaceGone k = k
     of (PlaceAgain why) (tables, may, misses, disk) = (tables, misses)
 
 -- ---- a page that is filled

@@ -53,7 +53,7 @@ assigned-backs cache slot index number free = of (position (holds_page slot inde
         absurd cc
 
 -- a tag that has a block, or for which there is a swap slot, has a block from then on
-slotted : (cache : CacheView) (tag : Tag) → lacks_block cache (Some tag) ≡ false → IsSome (backing_of (with_swap_slot cache (Some tag)) tag)
+pub slotted : (cache : CacheView) (tag : Tag) → lacks_block cache (Some tag) ≡ false → IsSome (backing_of (with_swap_slot cache (Some tag)) tag)
 slotted cache (File file index) e = refl
 slotted cache (Anon slot index) e = of (swap_slot cache (Anon slot index)) refl
   where
@@ -104,9 +104,9 @@ some_lacks (Some x) b some = refl
 some_lacks None b some = let bad : false ≡ true = some in absurd cc
 
 -- a page that can go and is dirty, or was found changed, can be written somewhere
-goes-placed : (parts : Parts) (page : ℕ) (v : StorageView) (found : PageValue) (tag : Tag) → CanGo parts (info_at parts.pages page) → CanBeWrittenOut parts page v → MayBecome (v.values page) found
+pub placed : (parts : Parts) (page : ℕ) (v : StorageView) (found : PageValue) (tag : Tag) → CanGo parts (info_at parts.pages page) → CanBeWrittenOut parts page v → MayBecome (v.values page) found
     → (info_at parts.pages page).tag ≡ Some tag → (found.changed || (info_at parts.pages page).dirty) ≡ true → lacks_block parts.cache (Some tag) ≡ false
-goes-placed parts page v found tag goes can may tagged was = of (info_at parts.pages page).dirty refl found.changed refl was
+placed parts page v found tag goes can may tagged was = of (info_at parts.pages page).dirty refl found.changed refl was
   where
     -- it is dirty already
     known : (info_at parts.pages page).dirty ≡ true → lacks_block parts.cache (Some tag) ≡ false
@@ -159,7 +159,7 @@ locked-is parts page cpu v d a w e below goes can k = record {
     may = k.may;
     was = was;
   };
-  backed = ap (λ (q : Parts). is_some (backing_at q page)) k.tables ∙ to_go-backed middle page cpu goes.tag inside tagged (ap (λ (c : CacheView). lacks_block c (Some goes.tag)) cache ∙ placed);
+  backed = ap (λ (q : Parts). is_some (backing_at q page)) k.tables ∙ to_go-backed middle page cpu goes.tag inside tagged (ap (λ (c : CacheView). lacks_block c (Some goes.tag)) cache ∙ is_placed);
 }
   where
     middle : Parts
@@ -180,8 +180,8 @@ locked-is parts page cpu v d a w e below goes can k = record {
     was : (k.found.changed || (info_at parts.pages page).dirty) ≡ true
     was = sym (dirty-after parts page k.found.changed below) ∙ k.dirty
 
-    placed : lacks_block parts.cache (Some goes.tag) ≡ false
-    placed = goes-placed parts page v k.found goes.tag goes can k.may goes.tagged was
+    is_placed : lacks_block parts.cache (Some goes.tag) ≡ false
+    is_placed = placed parts page v k.found goes.tag goes can k.may goes.tagged was
 
 handled-hand : (parts : Parts) (page : ℕ) → (handled parts page).hand ≡ parts.hand
 unfolding handled freed

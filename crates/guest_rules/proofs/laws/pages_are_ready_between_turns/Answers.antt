@@ -1,5 +1,6 @@
 use Rattle.cmm_flat.specs.Legal.{flat_of}
 use Rattle.guest_rules.proofs.Ready.AnswerReady.{shown-ready, fill-ready, write_back-ready, page_out-ready, go-ready, clear-ready}
+use Rattle.guest_rules.proofs.Ready.TearReady.{tearing-tears}
 use Rattle.guest_rules.proofs.laws.pages_are_ready_between_turns.Goals as goal
 
 pub returns-clause-filled : goal.returns-clause-filled
@@ -21,3 +22,6 @@ returns-clause-may_go c g v d page tag fit below tagged uptodate =
 
 pub returns-clause-clears : goal.returns-clause-clears
 returns-clause-clears c g v d cpu slot index pte fit phase entry = clear-ready (flat_of g.plan g.journal) g v d cpu slot index pte fit phase entry
+
+pub returns-clause-tears : goal.returns-clause-tears
+returns-clause-tears c g v d cpu slot index page fit phase there unlocked = tearing-tears g v d cpu slot index page fit (fit.teardowns.tearing cpu slot index phase) there unlocked
