@@ -2,21 +2,22 @@
 use Rattle.std.proofs.Common.{◌≡◌, ◌≤◌, ◌/◌, ℕ, List, Bool, true, false, length, Some, IsSome, sym, subst}
 use Rattle.cmm_types.specs.declared.page.TheConstants.{PAGE}
 use Rattle.cmm_types.specs.declared.command.Op.{Op}
-use Rattle.cmm_types.specs.declared.command.Op.TheVariants.{Read, Write, MapFile, Load, Store, Sync, Unmap}
+use Rattle.cmm_types.specs.declared.command.Op.TheVariants.{Read, Write, MapFile, MapAnon, Load, Store, Sync, Unmap}
 use Rattle.cmm_types.specs.InRange.{IsPiece}
 use Rattle.cmm_flat.specs.Legal.{process_of, flat_of}
 use Rattle.cmm_storage.specs.StorageView.{StorageView}
 use Rattle.guest_pages.specs.PagesView.{info_at}
-use Rattle.guest_maps.specs.declared.slot.Shown.TheVariants.{File as OfFile}
+use Rattle.guest_maps.specs.declared.slot.Shown.TheVariants.{File as OfFile, Anon as OfItsOwn}
 use Rattle.guest_maps.specs.MapsView.{IsMapping, find_slot, free_slot}
-use Rattle.guest_rules.specs.GuestState.{GuestState}
+use Rattle.guest_rules.specs.GuestState.{GuestState, processor_at}
 use Rattle.guest_rules.specs.Calls.{CanMap, CanPin}
 use Rattle.guest_rules.specs.Fit.{IsSyncing}
 use Rattle.guest_rules.proofs.Cases.TurnCases.{Has, Starts, HasItsTag, pin_op}
+use Rattle.guest_rules.proofs.Cases.Commands.{command-in_range}
 use Rattle.guest_rules.proofs.Cases.WantedTags.{write-piece}
 use Rattle.guest_rules.proofs.Cases.Placed.{ReachesPlace, pin-reaches}
 use Rattle.guest_rules.proofs.Cases.Reached.{Reaches, load_reaches, store_reaches}
-use Rattle.guest_rules.proofs.Ready.ReadyCalls.{read-piece, load-piece, store-piece, pin-piece, map-pages, map-free, process-below, writers-most, reached-place, pins-most, unpin-some, sync-starts, unmap-number}
+use Rattle.guest_rules.proofs.Ready.ReadyCalls.{read-piece, load-piece, store-piece, pin-piece, map-pages, map-free, map_own-free, process-below, writers-most, reached-place, pins-most, unpin-some, sync-starts, unmap-number}
 use Rattle.guest_core.specs.Between.{CanLookUp, IsFit}
 
 -- a guest that fits, and the command that a processor has
@@ -116,6 +117,14 @@ module _ (g : GuestState) (v : StorageView) (fit : IsFit g v) (cpu : ℕ) (op : 
 
   pub slot-free : (number file first count : ℕ) (writable : Bool) → Starts g cpu op → op ≡ MapFile number file first count writable → IsSome (free_slot g.parts.maps)
   slot-free number file first count writable starts is = map-free g v fit.0 cpu number file first count writable fit.1 (subst (λ q. Starts g cpu q) is starts)
+
+  pub new-own : (number count : ℕ) → Has g cpu op → op ≡ MapAnon number count → IsMapping (process_of g.plan cpu) number OfItsOwn count
+  new-own number count has is =
+      let pages = command-in_range g.plan cpu (processor_at g cpu).place (MapAnon number count) fit.1.sizes.range (subst (λ q. Has g cpu q) is has).command in
+      (process-below g v fit.0 cpu fit.1, pages.0, pages.1)
+
+  pub slot-free_own : (number count : ℕ) → Starts g cpu op → op ≡ MapAnon number count → IsSome (free_slot g.parts.maps)
+  slot-free_own number count starts is = map_own-free g v fit.0 cpu number count fit.1 (subst (λ q. Starts g cpu q) is starts)
 
   pub sync-begins : (file : ℕ) → Starts g cpu op → op ≡ Sync file → IsSyncing g cpu file 0
   sync-begins file starts is = sync-starts g v fit.0 cpu file fit.1 (subst (λ q. Starts g cpu q) is starts)

@@ -4,7 +4,7 @@ use Rattle.cmm_types.specs.declared.page.TheConstants.{PAGE}
 use Rattle.cmm_types.specs.declared.page.Tag.{Tag}
 use Rattle.cmm_types.specs.declared.page.Tag.TheVariants.{File}
 use Rattle.cmm_types.specs.declared.command.Op.{Op}
-use Rattle.cmm_types.specs.declared.command.Op.TheVariants.{Read, Write, MapFile, Unmap, Load, Store, Pin, Unpin, Sync}
+use Rattle.cmm_types.specs.declared.command.Op.TheVariants.{Read, Write, MapFile, MapAnon, Unmap, Load, Store, Pin, Unpin, Sync}
 use Rattle.cmm_types.specs.declared.command.FlatRefusal.TheVariants.{AlreadyMapped}
 use Rattle.cmm_types.specs.declared.turn.Turn.{Turn}
 use Rattle.cmm_flat.specs.Legal.{process_of}
@@ -12,7 +12,7 @@ use Rattle.cmm_io.specs.DiskCall.{DiskCall}
 use Rattle.cmm_storage.specs.StorageCall.{StorageCall}
 use Rattle.cmm_storage.specs.Program.{Program, Does, DoesAlone}
 use Rattle.guest_maps.specs.declared.slot.Pte.{Pte}
-use Rattle.guest_maps.specs.declared.slot.Shown.TheVariants.{File as OfFile}
+use Rattle.guest_maps.specs.declared.slot.Shown.TheVariants.{File as OfFile, Anon as OfItsOwn}
 use Rattle.guest_maps.specs.MapsView.{find_slot, free_slot, tag_at}
 use Rattle.guest_rules.specs.GuestState.{GuestState}
 use Rattle.guest_rules.specs.Turns.{refusal_of_new, resolve_turn, pin_turn, use_turn, hit_turn, start_tagged, start_at, start_entry, start_mapped, start_placed, map_turn, unmap_turn, start_accepted, sync_turn, write_back_turn}
@@ -77,6 +77,9 @@ module _ (g : GuestState) (cpu : ℕ) (op : Op) where
       → start_accepted g cpu op ≡ map_turn g cpu op number (OfFile file first writable) count (free_slot g.parts.maps)
   accepted-map number file first count writable is = rw is refl
 
+  pub accepted-map_own : (number count : ℕ) → op ≡ MapAnon number count → start_accepted g cpu op ≡ map_turn g cpu op number OfItsOwn count (free_slot g.parts.maps)
+  accepted-map_own number count is = rw is refl
+
   pub accepted-load : (number off len : ℕ) → op ≡ Load number off len
       → start_accepted g cpu op ≡ start_mapped g cpu op false off (find_slot g.parts.maps (process_of g.plan cpu) number)
   accepted-load number off len is = rw is refl
@@ -111,9 +114,9 @@ module _ (g : GuestState) (cpu : ℕ) (op : Op) where
   back-sync file index page is = rw is refl
 
 -- a new mapping that isn't refused has a number of its own
-pub new-fresh : (g : GuestState) (file first count : ℕ) (o : Option ℕ) → refusal_of_new g file first count o ≡ None → o ≡ None
-new-fresh g file first count None e = refl
-new-fresh g file first count (Some slot) e = let bad : Some AlreadyMapped ≡ None = e in absurd cc
+pub new-fresh : (g : GuestState) (are_there : Bool) (o : Option ℕ) → refusal_of_new g are_there o ≡ None → o ≡ None
+new-fresh g are_there None e = refl
+new-fresh g are_there (Some slot) e = let bad : Some AlreadyMapped ≡ None = e in absurd cc
 
 -- an entry that serves
 pub served-entry : (writes : Bool) (o : Option Pte) (page : ℕ) → serving writes o ≡ Some page

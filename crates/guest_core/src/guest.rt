@@ -10,7 +10,6 @@ ghost use Rattle.guest_pages.specs.PagesView.{info_at};
 ghost use Rattle.guest_rules.specs.declared.processor.Phase.TheVariants.{Start, Fill};
 ghost use Rattle.guest_rules.specs.GuestState.{opening_guest, processor_at, with_phase, entered, answered, next_command};
 ghost use Rattle.guest_rules.specs.Turns.{missed_next, turn_in, turn};
-ghost use Rattle.guest_rules.specs.Built.{GuestIsBuilt};
 ghost use Rattle.guest_rules.specs.Fresh.{AreFresh};
 ghost use Rattle.guest_rules.specs.Fit.{Fit, all_commands};
 ghost use Rattle.guest_rules.specs.Cause.{TurnCause, AloneCause, NoWrongDiscard};
@@ -66,8 +65,7 @@ impl Model for Guest {
 impl Guest {
     /// A guest before its first turn. It takes all memory that the guest ever needs.
     pub fn open(alloc: Global, plan: &GuestPlan) -> Result<Guest, AllocError>
-        requires range { GuestInRange plan.now }
-        requires built { GuestIsBuilt plan.now }
+        requires { GuestInRange plan.now }
         ensures opening { IfOk result (λ guest. guest ≡ opening_guest plan.now) }
         ensures fit { IfOk result (λ guest. (v : StorageView) (d : DiskView) → AreFresh plan.now v d → Fit guest v d) }
     {

@@ -1,5 +1,6 @@
 // Syncs of a guest's only page, over a storage whose host does what a list says.
-ghost use Rattle.std.specs.Prelude.{◌≡◌, ◌<◌, None, true};
+ghost use Rattle.std.specs.Prelude.{◌≡◌, ◌<◌, None, true, IfOk};
+ghost use Rattle.cmm_types.specs.InRange.{FileInRange};
 ghost use Rattle.cmm_types.specs.declared.page.Usage.TheVariants.{S};
 
 use crate::{sync_page, write_back};
@@ -79,6 +80,17 @@ fn look(
     Ok((synced, dirty, locked))
 }
 
+/// A file of one page.
+fn old_file(alloc: Global) -> Result<FilePlan, AllocError>
+    ensures range { IfOk result FileInRange }
+    ensures pages { IfOk result (λ file. file.pages ≡ 1) }
+{
+    Ok(FilePlan {
+        pages: 1,
+        head: Items::from_vec(Vec::from_slice(alloc, b"old")?),
+    })
+}
+
 /// What the writing back of the page of a file, which a processor has locked, answers, and whether it is dirty
 /// then, and locked; nothing where the host doesn't let the page be touched before. It was stored to where that is
 /// asked for, and the disk fails where a list says.
@@ -108,10 +120,7 @@ fn back(
     };
     parts.pages.set_info(0, info);
     parts.cache.insert(tag, 0);
-    let file = FilePlan {
-        pages: 1,
-        head: Items::from_vec(Vec::from_slice(alloc, b"old")?),
-    };
+    let file = old_file(alloc)?;
     let mut storage = NoisyStorage::open(alloc, 1, Vec::from_array(alloc, noises)?)?;
     let mut disk = MemDisk::open(alloc, &[file], 0, fails)?;
     if !prepare(&mut storage, stores) {

@@ -1,5 +1,7 @@
 // Reads, writes and pins of a guest's only page, over a storage whose host does what a list says.
-ghost use Rattle.std.specs.Prelude.{◌≡◌, ◌<◌, None};
+ghost use Rattle.std.specs.Prelude.{◌≡◌, ◌<◌, None, IfOk};
+ghost use Rattle.guest_pages.specs.PagesView.{opening_pages, popped};
+ghost use Rattle.guest_maps.specs.MapsView.{IsPlace};
 
 use crate::{pin_page, read_page, write_page};
 use cmm_storage::{Noise, NoisyStorage, Storage};
@@ -136,27 +138,45 @@ fn a_writer_leaves_the_page_dirty_where_it_wrote(rt: HostRuntime) -> Result<(), 
     Ok(())
 }
 
-/// What a pin of the only place of a mapping answers, and the next free page then. The page is the place's, and the
-/// first two noises come before the pin.
-#[tactic(auto, using(guest_maps::specs::Laws::MapsLaws::places_kept), unfolding(guest_pages::specs::PagesView::popped))]
-fn pin(alloc: Global, noises: [Noise; 4]) -> Result<(Placed, Option<u32>), AllocError> {
-    let mut parts = Parts {
-        pages: Pages::open(alloc, 1)?,
-        cache: Cache::open(alloc, &[], 0, 0)?,
-        maps: Maps::open(alloc, 1)?,
-        hand: 0,
-        faults: 0,
-    };
-    parts.pages.pop();
+/// A guest's only page, which isn't free.
+fn used_page(alloc: Global) -> Result<Pages, AllocError>
+    ensures { IfOk result (λ pages. pages ≡ popped (opening_pages 1)) }
+{
+    let mut pages = Pages::open(alloc, 1)?;
+    pages.pop();
+    Ok(pages)
+}
+
+/// A mapping of one page of a file, in the first slot.
+#[tactic(auto, using(guest_maps::specs::Laws::MapsLaws::places_kept))]
+fn mapped_page(alloc: Global) -> Result<Maps, AllocError>
+    ensures place { IfOk result (λ maps. IsPlace maps 0 0) }
+    ensures pages { IfOk result (λ maps. maps.pages ≡ 1) }
+{
+    let mut maps = Maps::open(alloc, 1)?;
     let shown = Shown::File {
         file: 0,
         first: 0,
         writable: false,
     };
-    let slot = parts.maps.add(0, 0, shown, 1);
+    maps.add(0, 0, shown, 1);
+    Ok(maps)
+}
+
+/// What a pin of the only place of a mapping answers, and the next free page then. The page is the place's, and the
+/// first two noises come before the pin.
+#[tactic(auto, unfolding(guest_pages::specs::PagesView::popped))]
+fn pin(alloc: Global, noises: [Noise; 4]) -> Result<(Placed, Option<u32>), AllocError> {
+    let mut parts = Parts {
+        pages: used_page(alloc)?,
+        maps: mapped_page(alloc)?,
+        cache: Cache::open(alloc, &[], 0, 0)?,
+        hand: 0,
+        faults: 0,
+    };
     let mut storage = NoisyStorage::open(alloc, 1, Vec::from_array(alloc, noises)?)?;
     prepare(&mut storage);
-    let answer = pin_page(&mut parts, &mut storage, 0, slot, 0, true);
+    let answer = pin_page(&mut parts, &mut storage, 0, 0, 0, true);
     Ok((answer, parts.pages.top()))
 }
 

@@ -247,27 +247,27 @@ impl Guest {
             Op::Unpin { map, page } => self.start_placed(cpu, st, op, *map, *page),
             Op::Sync { file } => self.sync_turn(cpu, st, op, *file, 0),
             Op::Unmap { map } => self.unmap_turn(cpu, op, *map),
-            Op::MapAnon { .. } => Turn::Idle,
+            Op::MapAnon { map, count } => self.map_turn(cpu, op, *map, Shown::Anon, *count),
         }
     }
 
-    /// Why a new mapping of `count` pages of a file from page `first` on is refused.
-    fn refusal_of_new(
-        &self,
-        process: u32,
-        map: u32,
-        file: u32,
-        first: u32,
-        count: u32,
-    ) -> Option<FlatRefusal>
-        requires looks_up { CanLookUp process map }
-        requires pages { ArePages first count }
-        ensures { result ≡ refusal_of_new self.now file first count (find_slot self.now.parts.maps process map) }
+    /// Whether there is such a file, and it has `count` pages from page `first` on.
+    fn file_has_pages(&self, file: u32, first: u32, count: u32) -> bool
+        requires { ArePages first count }
+        ensures { result ≡ file_has_bytes self.now.plan.files file (PAGE * first) (PAGE * count) }
+    {
+        self.file_has_bytes(file, PAGE as u32 * first, PAGE as u32 * count)
+    }
+
+    /// Why a new mapping of pages that are there, or aren't, is refused.
+    fn refusal_of_new(&self, process: u32, map: u32, are_there: bool) -> Option<FlatRefusal>
+        requires { CanLookUp process map }
+        ensures { result ≡ refusal_of_new self.now are_there (find_slot self.now.parts.maps process map) }
     {
         match self.parts.maps.find(process, map) {
             Some(_) => Some(FlatRefusal::AlreadyMapped),
             None => {
-                if !self.file_has_bytes(file, PAGE as u32 * first, PAGE as u32 * count) {
+                if !are_there {
                     Some(FlatRefusal::OutOfRange)
                 } else if self.parts.maps.live() >= MAX_LIVE_MAPPINGS {
                     Some(FlatRefusal::TooManyMaps)
@@ -307,7 +307,10 @@ impl Guest {
                 first,
                 count,
                 writable: _,
-            } => self.refusal_of_new(process, *map, *file, *first, *count),
+            } => {
+                let are_there = self.file_has_pages(*file, *first, *count);
+                self.refusal_of_new(process, *map, are_there)
+            }
             Op::Load { map, off, len } => refusal_at(maps, false, process, *map, *off, *len),
             Op::Store { map, off, bytes } => {
                 refusal_at(maps, true, process, *map, *off, bytes.len() as u32)
@@ -322,7 +325,7 @@ impl Guest {
                 }
             }
             Op::Unmap { map } => refusal_of_unmap(maps, process, *map),
-            Op::MapAnon { .. } => None,
+            Op::MapAnon { map, count: _ } => self.refusal_of_new(process, *map, true),
         }
     }
 

@@ -1,8 +1,15 @@
-use Rattle.std.proofs.Common.{ap, ◌∙◌}
-use Rattle.cmm_types.specs.declared.plan.TheConstants.{MAX_MAPPING_SLOTS}
-use Rattle.guest_maps.specs.MapsView.{MapsView, find_slot}
-use Rattle.guest_maps.specs.Laws.MapsLaws.{find_slot-opening}
+use Rattle.std.proofs.Common.{rules}
+use Rattle.guest_pages.specs.PagesView.{popped}
 use Rattle.guest_io.proofs.tests.pin.Goals as goal
 
-pub add-slot-requires-clause-new : goal.add-slot-requires-clause-new
-add-slot-requires-clause-new c = ap (λ (m : MapsView). find_slot m 0 0) c.in_ok-open-3.ensures ∙ find_slot-opening 1 MAX_MAPPING_SLOTS 0 0
+pub pin_page-answer-requires-clause-takes : goal.pin_page-answer-requires-clause-takes
+unfolding popped
+pin_page-answer-requires-clause-takes c = record {
+  in_use = record { below = search rules; shown = search rules; not_free = search rules; tag = search rules };
+  there = search rules;
+  none_held = search rules;
+}
+
+pub pin_page-answer-requires-clause-pin : goal.pin_page-answer-requires-clause-pin
+unfolding popped
+pin_page-answer-requires-clause-pin c = record { place = c.in_ok-mapped_page.ensures.place; most = search rules; some = search rules }

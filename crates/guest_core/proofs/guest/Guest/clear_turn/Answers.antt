@@ -1,4 +1,6 @@
 use Rattle.std.proofs.Common.{subst, inl, inr}
+use Rattle.guest_rules.specs.declared.parts.Parts.{Parts}
+use Rattle.guest_rules.specs.Rows.{clear_entry}
 use Rattle.guest_core.proofs.Teardown.{TakesOffBy, off-by, torn_to, run-off}
 use Rattle.guest_core.proofs.guest.Guest.clear_turn.Goals as goal
 
@@ -18,7 +20,8 @@ pass_torn-requires-in-Gone-clause-torn g c =
 
 pub returns-in-Done : goal.returns-in-Done
 returns-in-Done g c = record {
-  row = run-off g.St.Storage.step c.args.st.now c.clear_entry.new.st _ c.args.self.now c.pass_torn.new.self c.pass_torn.result c.args.cpu c.args.slot c.args.index c.args.pte
+  row = run-off g.St.Storage.step c.args.st.now c.clear_entry.new.st _ c.args.self.now c.pass_torn.new.self c.pass_torn.result c.args.cpu c.args.slot c.args.index
+      (λ (parts : Parts). clear_entry parts c.args.slot c.args.index c.args.pte)
       c.clear_entry.new.parts c.clear_entry.result c.self.view_is (inl c.in-Done.is)
       (subst (TakesOffBy c.args.self.now.parts.maps c.clear_entry.new.parts.maps c.args.slot c.args.index) c.in-Done.is
       (off-by g.St.Storage.step g.St.Storage.view g.met.St.Storage.meets _ c.args.self.now c.args.st.now c.clear_entry.new.st c.requires.fit.0 c.args.cpu c.args.slot c.args.index c.args.pte
@@ -28,7 +31,8 @@ returns-in-Done g c = record {
 
 pub returns-in-Gone : goal.returns-in-Gone
 returns-in-Gone g c = record {
-  row = run-off g.St.Storage.step c.args.st.now c.clear_entry.new.st _ c.args.self.now c.pass_torn-in-Gone.new.self c.pass_torn-in-Gone.result c.args.cpu c.args.slot c.args.index c.args.pte
+  row = run-off g.St.Storage.step c.args.st.now c.clear_entry.new.st _ c.args.self.now c.pass_torn-in-Gone.new.self c.pass_torn-in-Gone.result c.args.cpu c.args.slot c.args.index
+      (λ (parts : Parts). clear_entry parts c.args.slot c.args.index c.args.pte)
       c.clear_entry.new.parts c.clear_entry.result c.self.view_is (inr c.in-Gone.is)
       (subst (TakesOffBy c.args.self.now.parts.maps c.clear_entry.new.parts.maps c.args.slot c.args.index) c.in-Gone.is
       (off-by g.St.Storage.step g.St.Storage.view g.met.St.Storage.meets _ c.args.self.now c.args.st.now c.clear_entry.new.st c.requires.fit.0 c.args.cpu c.args.slot c.args.index c.args.pte

@@ -15,7 +15,7 @@ open-requires-2-clause-blocks c =
     let pages : c.deref.result.now ≡ map (λ (file : FilePlan). file.pages) c.args.plan.now.files =
     c.deref.ensures.value ∙ c.in_ok-files.ensures ∙ ap (λ files. map (λ (file : FilePlan). file.pages) files) c.as_slice.ensures
     in
-    omega (arith, ap sum pages, sum-map (λ (file : FilePlan). file.pages) c.args.plan.now.files, blocks_bound c.args.plan.now c.requires.range)
+    omega (arith, ap sum pages, sum-map (λ (file : FilePlan). file.pages) c.args.plan.now.files, blocks_bound c.args.plan.now c.requires)
 
 pub returns-clause-opening : goal.returns-clause-opening
 returns-clause-opening c =
@@ -37,4 +37,4 @@ returns-clause-opening c =
     (c.in_ok-vec.ensures.items_if_clones_equal (λ y h. h) ∙ ap (λ n. replicate n first_processor) c.len.ensures ∙ all_at_start c.args.plan.now.cpus)
 
 pub returns-clause-fit : goal.returns-clause-fit
-returns-clause-fit c v d fresh = subst (λ guest. Fit guest v d) (sym (returns-clause-opening c)) (Fit-opening c.args.plan.now v d c.requires.range c.requires.built fresh)
+returns-clause-fit c v d fresh = subst (λ guest. Fit guest v d) (sym (returns-clause-opening c)) (Fit-opening c.args.plan.now v d c.requires fresh)

@@ -1,8 +1,8 @@
 use Rattle.std.proofs.Common.{true, false, refl, ap, subst, ◌∙◌}
 use Rattle.cmm_flat.specs.Legal.{process_of}
 use Rattle.guest_rules.proofs.Cases.TurnCases.{Starts, wanted_tag}
-use Rattle.guest_core.proofs.Commands.{load-looks_up, store-looks_up, pin-looks_up, load-reaches, store-reaches, place-reaches, new-mapping, slot-free, sync-begins, unmap-looks_up}
-use Rattle.guest_core.proofs.OtherTurns.{same_run, accepted-read, accepted-write, accepted-map, accepted-load, accepted-store, new-fresh, accepted-pin, accepted-unpin, accepted-sync, accepted-unmap}
+use Rattle.guest_core.proofs.Commands.{load-looks_up, store-looks_up, pin-looks_up, load-reaches, store-reaches, place-reaches, new-mapping, slot-free, new-own, slot-free_own, sync-begins, unmap-looks_up}
+use Rattle.guest_core.proofs.OtherTurns.{same_run, accepted-read, accepted-write, accepted-map, accepted-map_own, accepted-load, accepted-store, new-fresh, accepted-pin, accepted-unpin, accepted-sync, accepted-unmap}
 use Rattle.guest_core.proofs.guest.Guest.start_accepted.Goals as goal
 
 -- ---- a read, and a write
@@ -33,7 +33,7 @@ pub map_turn-requires-clause-range : goal.map_turn-requires-clause-range
 map_turn-requires-clause-range g c = new-mapping c.args.self.now _ c.requires.fit c.args.cpu c.args.op.now _ _ _ _ _ c.requires.starts.has c.in-MapFile.is
 
 pub map_turn-requires-clause-new : goal.map_turn-requires-clause-new
-map_turn-requires-clause-new g c = new-fresh c.args.self.now _ _ _ _ (subst (λ op. Starts c.args.self.now c.args.cpu op) c.in-MapFile.is c.requires.starts).accepted
+map_turn-requires-clause-new g c = new-fresh c.args.self.now _ _ (subst (λ op. Starts c.args.self.now c.args.cpu op) c.in-MapFile.is c.requires.starts).accepted
 
 pub map_turn-requires-clause-free : goal.map_turn-requires-clause-free
 map_turn-requires-clause-free g c = slot-free c.args.self.now _ c.requires.fit c.args.cpu c.args.op.now _ _ _ _ _ c.requires.starts c.in-MapFile.is
@@ -43,6 +43,22 @@ returns-in-MapFile g c =
     record {
       row = same_run g.St.Storage.step c.args.st.now c.args.st.now c.map_turn.new.self c.map_turn.result _ _
           (accepted-map c.args.self.now c.args.cpu c.args.op.now _ _ _ _ _ c.in-MapFile.is ∙ c.map_turn.ensures.row) (refl, refl, refl);
+    }
+
+pub map_turn-requires-in-MapAnon-clause-range : goal.map_turn-requires-in-MapAnon-clause-range
+map_turn-requires-in-MapAnon-clause-range g c = new-own c.args.self.now _ c.requires.fit c.args.cpu c.args.op.now _ _ c.requires.starts.has c.in-MapAnon.is
+
+pub map_turn-requires-in-MapAnon-clause-new : goal.map_turn-requires-in-MapAnon-clause-new
+map_turn-requires-in-MapAnon-clause-new g c = new-fresh c.args.self.now true _ (subst (λ op. Starts c.args.self.now c.args.cpu op) c.in-MapAnon.is c.requires.starts).accepted
+
+pub map_turn-requires-in-MapAnon-clause-free : goal.map_turn-requires-in-MapAnon-clause-free
+map_turn-requires-in-MapAnon-clause-free g c = slot-free_own c.args.self.now _ c.requires.fit c.args.cpu c.args.op.now _ _ c.requires.starts c.in-MapAnon.is
+
+pub returns-in-MapAnon : goal.returns-in-MapAnon
+returns-in-MapAnon g c =
+    record {
+      row = same_run g.St.Storage.step c.args.st.now c.args.st.now c.map_turn-in-MapAnon.new.self c.map_turn-in-MapAnon.result _ _
+          (accepted-map_own c.args.self.now c.args.cpu c.args.op.now _ _ c.in-MapAnon.is ∙ c.map_turn-in-MapAnon.ensures.row) (refl, refl, refl);
     }
 
 -- ---- a mapping's end
