@@ -34,8 +34,9 @@ use Rattle.cmm_world.specs.Run.{turned, turn_step, turns_on, turns_after, alone_
 use Rattle.cmm_world.specs.Exec.{exec}
 use Rattle.cmm_world.specs.Steps.{NoWrongDiscards, NoStepDiscardsWrongly, IsStepByStep, turns_taken, step_answers}
 use Rattle.cmm_world.specs.Reached.{HasReached}
+use Rattle.cmm_world.specs.Lacking.{LacksPages}
 use Rattle.cmm_world.proofs.Unbound.{halfway}
-use Rattle.cmm_world.proofs.TurnRuns.{AfterTurn, Grows, Grows-same, Grows-trans, HasReached-none, HasReached-then, after_turn, with_turn, served_same}
+use Rattle.cmm_world.proofs.TurnRuns.{AfterTurn, Grows, Grows-same, Grows-trans, HasReached-none, HasReached-then, LacksPages-none, LacksPages-then, after_turn, with_turn, served_same}
 
 -- so many turns of a processor, as events
 abbrev pub turns_of : (guest cpu count : ℕ) → List Event
@@ -55,6 +56,7 @@ pub record AfterTurns (left turns : ℕ) (w : WorldState) (guest cpu : ℕ) (h :
   pub steps : turns_after left turns w guest cpu ≡ (a, with_turn w guest h k e)
   pub world : IsWorld (with_turn w guest h k e)
   pub reached : HasReached w (with_turn w guest h k e)
+  pub lacks : LacksPages w (with_turn w guest h k e)
   pub grows : Grows w (with_turn w guest h k e)
   pub plan : h.plan ≡ (guest_at w guest).plan
   pub stops : (a ≡ AloneIdle) ⊎ Stops turns w guest cpu a (with_turn w guest h k e)
@@ -88,6 +90,7 @@ after_none turns w guest cpu h a k e world is_guest idle is_host is_disk =
       steps = λ i. (sym idle i, sym same i);
       world = subst IsWorld (sym same) world;
       reached = subst (HasReached w) (sym same) (HasReached-none w w (λ guest. refl));
+      lacks = subst (LacksPages w) (sym same) (LacksPages-none w w (λ guest. refl));
       grows = subst (Grows w) (sym same) (Grows-same w w (λ guest. refl));
       plan = ap (λ (g : GuestState). g.plan) is_guest;
       stops = inl idle;
@@ -104,6 +107,7 @@ after_stop left turns w guest cpu h r a k e on answer next =
       steps = ap (λ (q : Turn × WorldState). turns_on (λ x. turns_after left (turns + 1) x guest cpu) turns q.0 q.1) next.step ∙ on _ x ∙ (λ i. (sym answer i, x));
       world = next.world;
       reached = next.reached;
+      lacks = next.lacks;
       grows = next.grows;
       plan = next.plan;
       stops = inr (record {
@@ -137,6 +141,7 @@ after_more left turns w guest cpu g h a j k d e below next rest =
       steps = ap (λ (q : Turn × WorldState). turns_on (λ x. turns_after left (turns + 1) x guest cpu) turns q.0 q.1) next.step ∙ rest.steps ∙ (λ i. (a, same i));
       world = subst IsWorld same rest.world;
       reached = HasReached-then w m (with_turn w guest h k e) (next.moved refl) (subst (Grows m) same rest.grows) (subst (HasReached m) same rest.reached);
+      lacks = LacksPages-then w m (with_turn w guest h k e) (next.moved refl) (subst (Grows m) same rest.grows) (subst (LacksPages m) same rest.lacks);
       grows = Grows-trans w m (with_turn w guest h k e) next.grows (subst (Grows m) same rest.grows);
       plan = rest.plan ∙ ap (λ (g : GuestState). g.plan) (get_or-set_same w.guests guest g (opening_guest no_plan) below) ∙ next.plan;
       stops = elim rest.stops [
@@ -236,6 +241,7 @@ pub record AfterAlone (w : WorldState) (guest cpu : ℕ) (h : GuestState) (a : A
   pub world : IsWorld (with_turn w guest h k e)
   pub steps : IsStepByStep w (Alone guest cpu)
   pub reached : HasReached w (with_turn w guest h k e)
+  pub lacks : LacksPages w (with_turn w guest h k e)
   pub plan : h.plan ≡ (guest_at w guest).plan
 
 module _ {S D : Type 0} (ss : S → StorageCall → S → Type 0) (ds : D → DiskCall → D → Type 0) (sv : S → HostState) (dv : D → DiskState)
@@ -298,5 +304,6 @@ module _ {S D : Type 0} (ss : S → StorageCall → S → Type 0) (ds : D → Di
         world = x.world;
         steps = step_by_step w guest cpu a (with_turn w guest h (sv t) (dv e)) x.steps (spelled _ _ _ _ w guest cpu h a (with_turn w guest h (sv t) (dv e)) cause x.steps x.stops);
         reached = x.reached;
+        lacks = x.lacks;
         plan = x.plan;
       }

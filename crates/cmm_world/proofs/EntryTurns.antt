@@ -4,6 +4,7 @@ use Rattle.std.proofs.Common.{refl, sym, ap, subst, arith, ◌∙◌, length-app
 use Rattle.std.proofs.lemmas.List.{append_cancel_left}
 use Rattle.cmm_types.specs.declared.page.TheConstants.{PAGE}
 use Rattle.cmm_types.specs.declared.page.Tag.{Tag}
+use Rattle.cmm_types.specs.declared.page.Tag.TheVariants.{Anon}
 use Rattle.cmm_types.specs.declared.command.Op.{Op}
 use Rattle.cmm_types.specs.declared.command.Op.TheVariants.{Unmap, Load, Store}
 use Rattle.cmm_types.specs.declared.command.Entry.{Entry}
@@ -38,11 +39,11 @@ use Rattle.guest_rules.specs.declared.outcome.Room.TheVariants.{Freed, Locked, W
 use Rattle.guest_rules.specs.declared.outcome.Placed.{Placed}
 use Rattle.guest_rules.specs.declared.outcome.Placed.TheVariants.{Done as PlaceDone, Gone as PlaceGone, Again as PlaceAgain}
 use Rattle.guest_rules.specs.GuestState.{GuestState, processor_at, with_parts, with_phase, entered, next_command}
-use Rattle.guest_rules.specs.Rows.{fill, resolve, clear_entry, load_page, store_through}
+use Rattle.guest_rules.specs.Rows.{fill, resolve, clear_entry, released, tear_page, load_page, store_through}
 use Rattle.guest_rules.specs.Syncs.{write_back}
 use Rattle.guest_rules.specs.MakeRoom.{make_room}
 use Rattle.guest_rules.specs.Turns.{turn, turn_on, turn_in, start_turn, start_refused, start_accepted, start_mapped, start_entry, start_at, start_found, start_free, start_locked}
-use Rattle.guest_rules.specs.Turns.{begin_turn, begin_taken, use_turn, resolve_turn, resolve_in, resolve_next, hit_turn, read_next, done_next, missed_next, fill_turn, fill_next, room_turn, room_next, page_out_turn, sync_turn, write_back_turn, torn_past, torn_next, teardown_entry, teardown_shown, teardown_in, teardown_turn, refusal_in}
+use Rattle.guest_rules.specs.Turns.{begin_turn, begin_taken, use_turn, resolve_turn, resolve_in, resolve_next, hit_turn, read_next, done_next, missed_next, fill_turn, fill_next, room_turn, room_next, page_out_turn, sync_turn, write_back_turn, torn_past, torn_next, teardown_entry, teardown_owned, teardown_page, teardown_shown, teardown_in, teardown_turn, refusal_in}
 use Rattle.cmm_world.proofs.Unbound.{halfway}
 use Rattle.cmm_world.proofs.Reaching.{IsReached, Through, load-through, store-through}
 
@@ -194,11 +195,26 @@ module _ {S D : Type 0} (ss : S → StorageCall → S → Type 0) (ds : D → Di
       let x = halfway ss ds (clear_entry g.parts slot index pte) (λ (went : Parts × Placed). torn_next g cpu slot index count went.0 went.1) s d (h, Finished) t e run in
       torn_next-never g cpu slot index count x.answer.0 x.answer.1 x.storage x.disk h t e entry gets x.second
 
+  teardown_owned-never : (g : GuestState) (cpu slot index count page : ℕ) (owner : Option ℕ) (s : S) (d : D) (h : GuestState) (t : S) (e : D) (entry : Entry) → Gets g h entry
+      → Ends g (teardown_owned g cpu slot index count page owner) s d h t e → ⊥
+  teardown_owned-never g cpu slot index count page (Some owner) s d h t e entry gets (ea, es, ed) = not_waiting _ h page owner ea
+  teardown_owned-never g cpu slot index count page None s d h t e entry gets run =
+      let x = halfway ss ds (tear_page g.parts slot index page) (λ (went : Parts × Placed). torn_next g cpu slot index count went.0 went.1) s d (h, Finished) t e run in
+      torn_next-never g cpu slot index count x.answer.0 x.answer.1 x.storage x.disk h t e entry gets x.second
+
+  teardown_page-never : (g : GuestState) (cpu slot index count : ℕ) (page : Option ℕ) (s : S) (d : D) (h : GuestState) (t : S) (e : D) (entry : Entry) → Gets g h entry
+      → Ends g (teardown_page g cpu slot index count page) s d h t e → ⊥
+  teardown_page-never g cpu slot index count None s d h t e entry gets (ea, es, ed) =
+      torn_past-never (with_parts g (released g.parts slot index)) cpu slot index count h entry (record { got = gets.got; answer = gets.answer }) ea
+  teardown_page-never g cpu slot index count (Some page) s d h t e entry gets run =
+      teardown_owned-never g cpu slot index count page (info_at g.parts.pages page).owner s d h t e entry gets run
+
   teardown_shown-never : (g : GuestState) (cpu slot index count : ℕ) (shown : Shown) (s : S) (d : D) (h : GuestState) (t : S) (e : D) (entry : Entry) → Gets g h entry
       → Ends g (teardown_shown g cpu slot index count shown) s d h t e → ⊥
   teardown_shown-never g cpu slot index count (OfFile file first writable) s d h t e entry gets run =
       teardown_entry-never g cpu slot index count (entry_at g.parts.maps slot index) s d h t e entry gets run
-  teardown_shown-never g cpu slot index count OfItsOwn s d h t e entry gets (ea, es, ed) = not_idle _ h ea
+  teardown_shown-never g cpu slot index count OfItsOwn s d h t e entry gets run =
+      teardown_page-never g cpu slot index count (page_of g.parts.cache (Anon slot index)) s d h t e entry gets run
 
   teardown_in-never : (g : GuestState) (cpu slot index : ℕ) (mapping : Option Slot) (s : S) (d : D) (h : GuestState) (t : S) (e : D) (entry : Entry) → Gets g h entry
       → Ends g (teardown_in g cpu slot index mapping) s d h t e → ⊥

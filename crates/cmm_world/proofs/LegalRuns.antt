@@ -18,6 +18,8 @@ use Rattle.cmm_world.specs.WorldFit.{WorldFit, KeepsWorld}
 use Rattle.cmm_world.specs.Failures.{AreCounted, WorldCounted}
 use Rattle.cmm_world.specs.Run.{run_of}
 use Rattle.cmm_world.specs.Steps.{IsStepByStep, AtEach}
+use Rattle.cmm_world.specs.Reached.{ReachesPages}
+use Rattle.cmm_world.specs.Lacking.{LacksRightly}
 use Rattle.cmm_world.specs.Headline.{FailsAsPlanned, IsLegalRun}
 use Rattle.cmm_world.proofs.Discards.{faults_few}
 
@@ -46,9 +48,10 @@ fails_as_planned g d pager legal counted = record {
     by_pager = omega (arith, counted.by_pager, counted-most g.plan.pager_fail pager counted.pager_calls)
 
 -- a world that played the schedule, kept what it must, and did each event as its single steps
-pub legal_run : (plan : Scenario) (v : WorldView) → v.state ≡ (run_of plan).1 → KeepsWorld (opening_view plan) v → AtEach IsStepByStep (opening_world plan) plan.schedule → IsLegalRun plan
+pub legal_run : (plan : Scenario) (v : WorldView) → v.state ≡ (run_of plan).1 → KeepsWorld (opening_view plan) v → AtEach IsStepByStep (opening_world plan) plan.schedule
+    → AtEach ReachesPages (opening_world plan) plan.schedule → AtEach LacksRightly (opening_world plan) plan.schedule → IsLegalRun plan
 unfolding opening_world
-legal_run plan v state keeps steps =
+legal_run plan v state keeps steps reached lacks =
     let x = (run_of plan).1 in
     let plans : plans_of x ≡ plan.guests = ap plans_of (sym state) ∙ keeps.plans ∙ opening_plans plan.guests in
     let fit : WorldFit x = subst WorldFit state keeps.fit in
@@ -58,6 +61,8 @@ legal_run plan v state keeps steps =
       plans = plans;
       legal = λ guest below. (fit guest (rw count below)).journal.legal;
       steps = steps;
+      reached = reached;
+      lacks = lacks;
       faults = λ guest below. faults_few x guest fit (rw count below);
       failures = λ guest below. fails_as_planned _ _ _ (fit guest (rw count below)).journal.legal (failures guest (rw count below));
     }

@@ -16,14 +16,12 @@ use Rattle.host_plain.specs.HostState.{HostState, pages_of, pager_of, no_pager, 
 use Rattle.host_plain.proofs.Opening.{opening_word-at}
 use Rattle.host_plain.proofs.Starts.{start-at, next_start}
 use Rattle.guest_rules.specs.GuestState.{GuestState, opening_guest}
-use Rattle.guest_rules.specs.Built.{GuestIsBuilt}
 use Rattle.essa_state.specs.PageValue.{opening_value}
 use Rattle.guest_rules.specs.Fit.{Fit}
 use Rattle.guest_rules.proofs.Opening.Opening.{Fit-opening}
 use Rattle.cmm_world.specs.WorldState.{WorldState, guest_at, disk_at, no_plan, opening_disk, opening_host, opening_world}
 use Rattle.cmm_world.specs.WorldFit.{IsWorld}
 use Rattle.cmm_world.specs.Failures.{AreCounted}
-use Rattle.cmm_world.specs.Built.{IsBuilt}
 
 abbrev plan_at : Scenario → ℕ → GuestPlan
 plan_at plan guest = slice_index_or plan.guests guest no_plan
@@ -44,10 +42,10 @@ fresh_at plan guest page =
     let word : word_at h.memory (list_place h page) ≡ opening_word = opening_word-at _ (list_place h page) in
     ap (λ w. actual w (body_at h.memory (list_place h page))) word
 
-fits_at : (plan : Scenario) (guest : ℕ) → guest < length plan.guests → GuestInRange (plan_at plan guest) → GuestIsBuilt (plan_at plan guest)
+fits_at : (plan : Scenario) (guest : ℕ) → guest < length plan.guests → GuestInRange (plan_at plan guest)
     → Fit (opening_guest (plan_at plan guest)) (host_view (served (opening_host plan) guest)) (disk_view (opening_disk (plan_at plan guest)))
-fits_at plan guest below range built =
-    Fit-opening (plan_at plan guest) _ _ range built (record {
+fits_at plan guest below range =
+    Fit-opening (plan_at plan guest) _ _ range (record {
       pages = pages_at plan guest below;
       values = λ page lt. fresh_at plan guest page;
       none_held = refl;
@@ -59,9 +57,9 @@ fits_at plan guest below range built =
 counted_at : (plan : GuestPlan) → AreCounted (opening_guest plan) (opening_disk plan) (failure_plan_of plan.pager_fail)
 counted_at plan = record { by_disk = omega arith; by_pager = omega arith; disk_calls = counted-opening plan.disk_fail; pager_calls = counted-opening plan.pager_fail }
 
-pub opening_fits : (plan : Scenario) → ScenarioInRange plan → IsBuilt plan → IsWorld (opening_world plan)
+pub opening_fits : (plan : Scenario) → ScenarioInRange plan → IsWorld (opening_world plan)
 unfolding opening_world
-opening_fits plan range built = record {
+opening_fits plan range = record {
   few = rw length-map range.guests.few;
   disks = length-map plan.guests opening_disk ∙ sym (length-map plan.guests opening_guest);
   pagers = length-map plan.guests _ ∙ sym (length-map plan.guests opening_guest);
@@ -70,7 +68,7 @@ opening_fits plan range built = record {
       let below : guest < length plan.guests = rw length-map at lt in
       let its : guest_at (opening_world plan) guest ≡ opening_guest (plan_at plan guest) = get_or-map opening_guest plan.guests guest no_plan (opening_guest no_plan) below in
       let disk : disk_at (opening_world plan) guest ≡ opening_disk (plan_at plan guest) = get_or-map opening_disk plan.guests guest no_plan (opening_disk no_plan) below in
-      rw (its, disk) (fits_at plan guest below (range.guests.each guest no_plan below) (built guest no_plan below));
+      rw (its, disk) (fits_at plan guest below (range.guests.each guest no_plan below));
   failures = λ guest lt.
       let below : guest < length plan.guests = rw length-map at lt in
       let its : guest_at (opening_world plan) guest ≡ opening_guest (plan_at plan guest) = get_or-map opening_guest plan.guests guest no_plan (opening_guest no_plan) below in

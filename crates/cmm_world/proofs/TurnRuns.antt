@@ -6,7 +6,8 @@ use Rattle.std.proofs.lemmas.List.{append_cancel_left, append_assoc, append-nil}
 use Rattle.cmm_types.specs.declared.command.Entry.{Entry}
 use Rattle.cmm_types.specs.declared.command.Op.{Op}
 use Rattle.cmm_types.specs.declared.command.Op.TheVariants.{Unmap, Load, Store}
-use Rattle.cmm_types.specs.declared.command.Reply.TheVariants.{Done, Bytes}
+use Rattle.cmm_types.specs.declared.command.Reply.TheVariants.{Done, Bytes, Fail}
+use Rattle.cmm_types.specs.declared.command.Cause.TheVariants.{NoPage}
 use Rattle.cmm_types.specs.declared.plan.GuestPlan.{GuestPlan}
 use Rattle.cmm_types.specs.declared.turn.Turn.{Turn}
 use Rattle.cmm_types.specs.declared.turn.Turn.TheVariants.{Moved, Finished, Waits, Again, Idle}
@@ -22,10 +23,11 @@ use Rattle.cmm_storage.specs.StorageView.{StorageView, Follows}
 use Rattle.cmm_storage.specs.Program.{Does}
 use Rattle.cmm_storage.specs.Views.{Seen, does_seen, page_called}
 use Rattle.host_plain.specs.HostState.{HostState, HostStep, Leaves, host_view, host_word, served, value_of, pages_of, first_place}
-use Rattle.guest_rules.specs.GuestState.{GuestState, opening_guest, processor_at}
+use Rattle.guest_rules.specs.declared.parts.Parts.{Parts}
+use Rattle.guest_rules.specs.GuestState.{GuestState, opening_guest, processor_at, entered}
 use Rattle.guest_rules.specs.Turns.{turn}
 use Rattle.guest_rules.specs.Fit.{Fit}
-use Rattle.guest_rules.specs.Cause.{TurnCause, NoWrongDiscard}
+use Rattle.guest_rules.specs.Cause.{TurnCause, ReplyCause, LacksPage, NoWrongDiscard}
 use Rattle.guest_rules.proofs.TurnLaws.{Fit-turn, Causes-turn, Discards-turn, plan-turn}
 use Rattle.guest_rules.specs.Failures.{FailuresFit}
 use Rattle.guest_rules.proofs.Causes.FailuresKept.{Failures-turn}
@@ -34,6 +36,7 @@ use Rattle.cmm_world.specs.WorldFit.{IsWorld, view_of}
 use Rattle.cmm_world.specs.Run.{turn_step, turned}
 use Rattle.cmm_world.specs.Steps.{NoWrongDiscards}
 use Rattle.cmm_world.specs.Reached.{HasReached, WasReached, Enters, world_word}
+use Rattle.cmm_world.specs.Lacking.{IsOutOfPages, LacksPages}
 use Rattle.cmm_world.proofs.ExecRuns.{does_exec}
 use Rattle.cmm_world.proofs.Carried.{carried}
 use Rattle.cmm_world.proofs.Failures.{PlansKept, plans_kept, failures_fit, counted_turn}
@@ -76,9 +79,15 @@ discards_moves w k keeps i page lt below lost = may_discard _ _ (keeps.pages i p
 abbrev pub SameJournals : WorldState → WorldState → Type 0
 SameJournals w x = (guest : ℕ) → (guest_at x guest).journal ≡ (guest_at w guest).journal
 
+-- an unmap that isn't refused was answered
+pub record AnswersUnmap (entry : Entry) : Type 0 where
+  pub number : ℕ
+  pub op : entry.op ≡ Unmap number
+  pub reply : entry.reply ≡ Done
+
 -- at most the answers of unmaps were entered
 abbrev pub EntersUnmaps : WorldState → WorldState → Type 0
-EntersUnmaps w x = (guest : ℕ) → ((guest_at x guest).journal ≡ (guest_at w guest).journal) ⊎ ((entry : Entry) × (number : ℕ) × (entry.op ≡ Unmap number) × Enters w x guest entry)
+EntersUnmaps w x = (guest : ℕ) → ((guest_at x guest).journal ≡ (guest_at w guest).journal) ⊎ ((entry : Entry) × AnswersUnmap entry × Enters w x guest entry)
 
 -- each journal has what it had, and then more
 abbrev pub Grows : WorldState → WorldState → Type 0
@@ -93,6 +102,10 @@ Grows-trans w m x first next guest =
     let b = next guest in
     (a.0 ++ b.0, b.1 ∙ ap (λ (xs : List Entry). xs ++ b.0) a.1 ∙ append_assoc (guest_at w guest).journal a.0 b.0)
 
+-- where no journal changed, no command failed for the want of a page
+pub LacksPages-none : (w x : WorldState) → SameJournals w x → LacksPages w x
+LacksPages-none w x same guest cpu k pinned unslotted op got = absurd (one_more (guest_at w guest).journal _ (sym (same guest) ∙ got))
+
 -- where no journal changed, nothing was entered
 pub HasReached-none : (w x : WorldState) → SameJournals w x → HasReached w x
 HasReached-none w x same = record {
@@ -104,13 +117,14 @@ HasReached-none w x same = record {
 first_behind : (xs : List Entry) (x y : Entry) (more : List Entry) → xs ++ x ∷ [] ≡ (xs ++ y ∷ []) ++ more → x ≡ y
 first_behind xs x y more same = let rest : x ∷ [] ≡ y ∷ more = append_cancel_left xs (x ∷ []) (y ∷ more) (same ∙ append_assoc xs (y ∷ []) more) in cc
 
-enters_then : (w m x : WorldState) (guest : ℕ) (entry : Entry) → EntersUnmaps w m → Grows m x → ((number : ℕ) → entry.op ≡ Unmap number → ⊥) → Enters w x guest entry → Enters m x guest entry
+enters_then : (w m x : WorldState) (guest : ℕ) (entry : Entry) → EntersUnmaps w m → Grows m x → (AnswersUnmap entry → ⊥) → Enters w x guest entry
+    → Enters m x guest entry
 enters_then w m x guest entry moved grows no_unmap got = elim (moved guest) [
   | inl same ↦ got ∙ ap (λ (xs : List Entry). xs ++ entry ∷ []) (sym same)
   | inr u ↦
       let more = grows guest in
-      let its : entry ≡ u.0 = first_behind (guest_at w guest).journal entry u.0 more.0 (sym got ∙ more.1 ∙ ap (λ (xs : List Entry). xs ++ more.0) u.3) in
-      absurd (no_unmap u.1 (ap (λ (q : Entry). q.op) its ∙ u.2))
+      let its : entry ≡ u.0 = first_behind (guest_at w guest).journal entry u.0 more.0 (sym got ∙ more.1 ∙ ap (λ (xs : List Entry). xs ++ more.0) u.2) in
+      absurd (no_unmap (subst AnswersUnmap (sym its) u.1))
 ]
 
 -- turns that entered at most the answers of unmaps, and then others
@@ -118,11 +132,16 @@ pub HasReached-then : (w m x : WorldState) → EntersUnmaps w m → Grows m x �
 HasReached-then w m x moved grows later = record {
   loads = λ guest cpu k number off len bytes got.
       later.loads guest cpu k number off len bytes
-      (enters_then w m x guest (record { cpu = cpu; k = k; op = Load number off len; reply = Bytes bytes }) moved grows (λ other is. let bad : Load number off len ≡ Unmap other = is in cc) got);
+      (enters_then w m x guest (record { cpu = cpu; k = k; op = Load number off len; reply = Bytes bytes }) moved grows (λ u. let bad : Load number off len ≡ Unmap u.number = u.op in cc) got);
   stores = λ guest cpu k number off bytes got.
       later.stores guest cpu k number off bytes
-      (enters_then w m x guest (record { cpu = cpu; k = k; op = Store number off bytes; reply = Done }) moved grows (λ other is. let bad : Store number off bytes ≡ Unmap other = is in cc) got);
+      (enters_then w m x guest (record { cpu = cpu; k = k; op = Store number off bytes; reply = Done }) moved grows (λ u. let bad : Store number off bytes ≡ Unmap u.number = u.op in cc) got);
 }
+
+pub LacksPages-then : (w m x : WorldState) → EntersUnmaps w m → Grows m x → LacksPages m x → LacksPages w x
+LacksPages-then w m x moved grows later guest cpu k pinned unslotted op got =
+    later guest cpu k pinned unslotted op
+    (enters_then w m x guest (record { cpu = cpu; k = k; op = op; reply = Fail (NoPage pinned unslotted) }) moved grows (λ u. let bad : Fail (NoPage pinned unslotted) ≡ Done = u.reply in cc) got)
 
 -- the word of the served guest's page stands in the list of its words
 word_in-host : (w : WorldState) (page : ℕ) → page < pages_of w.host w.host.guest → world_word w w.host.guest page ≡ host_word w.host page
@@ -147,21 +166,22 @@ was_reached w guest process number off writes serves x =
 
 -- a turn that entered something finished or answered an unmap, and this was the processor's command
 pub record Entered (g : GuestState) (cpu : ℕ) (r : Turn) (entry : Entry) : Type 0 where
-  pub finished : (r ≡ Finished) ⊎ ((number : ℕ) × (entry.op ≡ Unmap number))
+  pub finished : (r ≡ Finished) ⊎ AnswersUnmap entry
   pub command : command_of g.plan cpu (processor_at g cpu).place ≡ Some entry.op
   pub its : entry.cpu ≡ cpu
 
 -- at most one entry is new, and an unmap's where the turn moved
 pub data HasEntered (g h : GuestState) (cpu : ℕ) (r : Turn) : Type 0 where
   nothing : h.journal ≡ g.journal → HasEntered g h cpu r
-  one : (entry : Entry) → Entered g cpu r entry → (r ≡ Moved → (number : ℕ) × (entry.op ≡ Unmap number)) → h.journal ≡ g.journal ++ entry ∷ [] → HasEntered g h cpu r
+  one : (entry : Entry) → Entered g cpu r entry → (r ≡ Moved → AnswersUnmap entry) → h.journal ≡ g.journal ++ entry ∷ [] → HasEntered g h cpu r
 
 has_entered : (g h : GuestState) (v w : StorageView) (d e : DiskView) (cpu : ℕ) (r : Turn) → TurnCause g v d cpu r h w e → HasEntered g h cpu r
 has_entered g h v w d e cpu Moved cause = elim cause.answer.0.journal [
   | inl same ↦ nothing same
   | inr u ↦
       let its : Entry = record { cpu = cpu; k = (processor_at g cpu).place; op = Unmap u.number; reply = Done } in
-      one its (record { finished = inr (u.number, refl); command = u.command; its = refl }) (λ moved. (u.number, refl)) u.entry
+      let answers : AnswersUnmap its = record { number = u.number; op = refl; reply = refl } in
+      one its (record { finished = inr answers; command = u.command; its = refl }) (λ moved. answers) u.entry
 ]
 has_entered g h v w d e cpu Finished cause = elim cause.answer [
   | inl f ↦
@@ -182,16 +202,48 @@ entered_by g h cpu r entry (one its entered moved journal) got = subst (Entered 
 
 -- a command that isn't an unmap is entered where it finishes
 finishes : (g : GuestState) (cpu : ℕ) (r : Turn) (entry : Entry) → Entered g cpu r entry → ((number : ℕ) → entry.op ≡ Unmap number → ⊥) → r ≡ Finished
-finishes g cpu r entry entered no_unmap = elim entered.finished [ inl finished ↦ finished | inr u ↦ absurd (no_unmap u.0 u.1) ]
+finishes g cpu r entry entered no_unmap = elim entered.finished [ inl finished ↦ finished | inr u ↦ absurd (no_unmap u.number u.op) ]
 
 grown : (g h : GuestState) (cpu : ℕ) (r : Turn) → HasEntered g h cpu r → (more : List Entry) × (h.journal ≡ g.journal ++ more)
 grown g h cpu r (nothing same) = ([], same ∙ sym (append-nil _))
 grown g h cpu r (one its entered moved journal) = (its ∷ [], journal)
 
 unmap_at_most : (g h : GuestState) (cpu : ℕ) → HasEntered g h cpu Moved
-    → (h.journal ≡ g.journal) ⊎ ((entry : Entry) × (number : ℕ) × (entry.op ≡ Unmap number) × (h.journal ≡ g.journal ++ entry ∷ []))
+    → (h.journal ≡ g.journal) ⊎ ((entry : Entry) × AnswersUnmap entry × (h.journal ≡ g.journal ++ entry ∷ []))
 unmap_at_most g h cpu (nothing same) = inl same
-unmap_at_most g h cpu (one its entered moved journal) = let u = moved refl in inr (its, u.0, u.1, journal)
+unmap_at_most g h cpu (one its entered moved journal) = inr (its, moved refl, journal)
+
+-- a guest without a page for a command, after that was entered
+no_page : (g h : GuestState) (v w : StorageView) (d e : DiskView) (cpu : ℕ) (r : Turn) (op : Op) (pinned unslotted : ℕ) → TurnCause g v d cpu r h w e → LacksPage g cpu op pinned unslotted
+    → IsOutOfPages h.parts pinned unslotted
+unfolding entered
+no_page g h v w d e cpu r op pinned unslotted cause lacks =
+    let parts : h.parts ≡ g.parts = ap (λ (q : GuestState). q.parts) (cause.lacks op lacks.accepted lacks.needs lacks.stuck).1 in
+    subst (λ (q : Parts). IsOutOfPages q pinned unslotted) (sym parts) (record { stuck = lacks.stuck; pinned_are = lacks.pinned_are; all = lacks.all })
+
+-- so it is of each command that a turn enters as failed for the want of a page
+lacks_page : (g h : GuestState) (v w : StorageView) (d e : DiskView) (cpu : ℕ) (r : Turn) (entry : Entry) (pinned unslotted : ℕ) → TurnCause g v d cpu r h w e
+    → entry.reply ≡ Fail (NoPage pinned unslotted) → h.journal ≡ g.journal ++ entry ∷ [] → IsOutOfPages h.parts pinned unslotted
+lacks_page g h v w d e cpu Moved entry pinned unslotted cause fails got = elim cause.answer.0.journal [
+  | inl same ↦ absurd (one_more g.journal entry (sym same ∙ got))
+  | inr u ↦
+      let its : Entry = record { cpu = cpu; k = (processor_at g cpu).place; op = Unmap u.number; reply = Done } in
+      let bad : Done ≡ Fail (NoPage pinned unslotted) = ap (λ (q : Entry). q.reply) (same_entry g.journal its entry (sym u.entry ∙ got)) ∙ fails in
+      absurd cc
+]
+lacks_page g h v w d e cpu Finished entry pinned unslotted cause fails got = elim cause.answer [
+  | inl f ↦
+      let its : Entry = record { cpu = cpu; k = (processor_at g cpu).place; op = f.op; reply = f.reply } in
+      let reply : f.reply ≡ Fail (NoPage pinned unslotted) = ap (λ (q : Entry). q.reply) (same_entry g.journal its entry (sym f.entry ∙ got)) ∙ fails in
+      no_page g h v w d e cpu Finished f.op pinned unslotted cause (subst (λ q. ReplyCause g cpu f.op v d q w e) reply f.cause).0
+  | inr torn ↦ absurd (one_more g.journal entry (sym torn.journal ∙ got))
+]
+lacks_page g h v w d e cpu (Waits page owner) entry pinned unslotted cause fails got = absurd (one_more g.journal entry (sym (ap (λ (q : GuestState). q.journal) cause.answer.0) ∙ got))
+lacks_page g h v w d e cpu (Again why) entry pinned unslotted cause fails got = elim cause.answer.0.tables [
+  | inl same ↦ absurd (one_more g.journal entry (sym (ap (λ (q : GuestState). q.journal) same) ∙ got))
+  | inr changed ↦ absurd (one_more g.journal entry (sym (ap (λ (q : GuestState). q.journal) changed.1) ∙ got))
+]
+lacks_page g h v w d e cpu Idle entry pinned unslotted cause fails got = absurd (one_more g.journal entry (sym (ap (λ (q : GuestState). q.journal) cause.answer.0) ∙ got))
 
 -- what a guest's turn leaves of the world
 pub record AfterTurn (w : WorldState) (guest cpu : ℕ) (h : GuestState) (r : Turn) (k : HostState) (e : DiskState) : Type 0 where
@@ -199,6 +251,7 @@ pub record AfterTurn (w : WorldState) (guest cpu : ℕ) (h : GuestState) (r : Tu
   pub world : IsWorld (with_turn w guest h k e)
   pub discards : NoWrongDiscards w (with_turn w guest h k e)
   pub reached : HasReached w (with_turn w guest h k e)
+  pub lacks : LacksPages w (with_turn w guest h k e)
   pub moved : r ≡ Moved → EntersUnmaps w (with_turn w guest h k e)
   pub grows : Grows w (with_turn w guest h k e)
   pub plan : h.plan ≡ (guest_at w guest).plan
@@ -250,9 +303,19 @@ module _ {S D : Type 0} (ss : S → StorageCall → S → Type 0) (ds : D → Di
       stores = λ i c n number off bytes got. reached i (record { cpu = c; k = n; op = Store number off bytes; reply = Done }) (Store number off bytes) number off true
           (store_mapped ss ds sv sm sl g cpu number off bytes) refl tt got;
     };
+    lacks = λ i c n pinned unslotted op got. elim (cases_eq i guest) [
+      | inl same ↦
+          subst (λ q. Enters w x q (record { cpu = c; k = n; op = op; reply = Fail (NoPage pinned unslotted) }) → IsOutOfPages (guest_at x q).parts pinned unslotted) (sym same)
+          (λ entered. subst (λ (q : GuestState). IsOutOfPages q.parts pinned unslotted) (sym here)
+          (lacks_page g h _ _ _ _ cpu r (record { cpu = c; k = n; op = op; reply = Fail (NoPage pinned unslotted) }) pinned unslotted cause refl
+          (sym (ap (λ (q : GuestState). q.journal) here) ∙ entered))) got
+      | inr other ↦
+          let same : (guest_at x i).journal ≡ (guest_at w i).journal = ap (λ (q : GuestState). q.journal) (get_or-set_other w.guests guest i h (opening_guest no_plan) other) in
+          absurd (one_more (guest_at w i).journal _ (sym same ∙ got))
+    ];
     moved = λ is_moved i. elim (cases_eq i guest) [
-      | inl same ↦ subst (λ q. ((guest_at x q).journal ≡ (guest_at w q).journal) ⊎ ((entry : Entry) × (number : ℕ) × (entry.op ≡ Unmap number) × Enters w x q entry)) (sym same)
-          (subst (λ (q : GuestState). (q.journal ≡ g.journal) ⊎ ((entry : Entry) × (number : ℕ) × (entry.op ≡ Unmap number) × (q.journal ≡ g.journal ++ entry ∷ []))) (sym here)
+      | inl same ↦ subst (λ q. ((guest_at x q).journal ≡ (guest_at w q).journal) ⊎ ((entry : Entry) × AnswersUnmap entry × Enters w x q entry)) (sym same)
+          (subst (λ (q : GuestState). (q.journal ≡ g.journal) ⊎ ((entry : Entry) × AnswersUnmap entry × (q.journal ≡ g.journal ++ entry ∷ []))) (sym here)
           (unmap_at_most g h cpu (subst (HasEntered g h cpu) is_moved entered)))
       | inr other ↦ inl (ap (λ (q : GuestState). q.journal) (get_or-set_other w.guests guest i h (opening_guest no_plan) other))
     ];

@@ -1,11 +1,11 @@
 pub mod Exec
 pub mod WorldState
 pub mod Run
-pub mod Built
 pub mod Failures
 pub mod WorldView
 pub mod WorldFit
 pub mod Steps
 pub mod Reached
+pub mod Lacking
 pub mod Played
 pub mod Headline

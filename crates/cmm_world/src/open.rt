@@ -3,7 +3,6 @@ ghost use Rattle.std.specs.Prelude.{◌≡◌, ◌<◌, ◌^◌, map, replicate,
 ghost use Rattle.cmm_types.specs.InRange.{GuestInRange, ScenarioInRange, guest_pages_of};
 ghost use Rattle.cmm_io.specs.FailurePlan.{failure_plan_of};
 ghost use Rattle.cmm_types.specs.Bytes.{zero_page};
-ghost use Rattle.guest_rules.specs.Built.{GuestIsBuilt};
 ghost use Rattle.guest_rules.specs.GuestState.{opening_guest};
 ghost use Rattle.cmm_world.specs.WorldState.{opening_disk, opening_host};
 
@@ -16,8 +15,7 @@ use std::alloc::{AllocError, Global};
 
 /// A guest of each plan, before its first turn.
 pub fn open_guests(alloc: Global, plans: &[GuestPlan]) -> Result<Vec<Guest>, AllocError>
-    requires range { All GuestInRange plans.now }
-    requires built { All GuestIsBuilt plans.now }
+    requires { All GuestInRange plans.now }
     ensures { IfOk result (λ guests. guests.items ≡ map opening_guest plans.now) }
 {
     let mut guests = Vec::with_capacity(alloc, plans.len())?;
@@ -43,7 +41,7 @@ fn open_disk(alloc: Global, plan: &GuestPlan) -> Result<MemDisk, AllocError>
 
 /// The disk of each guest.
 pub fn open_disks(alloc: Global, plans: &[GuestPlan]) -> Result<Vec<MemDisk>, AllocError>
-    requires range { All GuestInRange plans.now }
+    requires { All GuestInRange plans.now }
     ensures { IfOk result (λ disks. disks.items ≡ map opening_disk plans.now) }
 {
     let mut disks = Vec::with_capacity(alloc, plans.len())?;

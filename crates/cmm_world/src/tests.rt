@@ -1,9 +1,8 @@
 ghost use Rattle.std.specs.Prelude.{◌≡◌, ◌<◌, All, IfOk, length};
 ghost use Rattle.cmm_types.specs.InRange.{EventInRange, ScenarioInRange};
-ghost use Rattle.cmm_world.specs.Built.{IsBuilt};
 ghost use Rattle.cmm_world.specs.WorldView.{plans_of};
 
-use crate::{World, is_built};
+use crate::World;
 use cmm_io::Disk;
 use cmm_types::{
     Alone, Answer, Bytes64, CpuPlan, Event, FilePlan, GuestPlan, Items, Move, Op, Refused,
@@ -70,8 +69,7 @@ fn map_file() -> Op {
 
 #[tactic(auto, using(crate::proofs::LegalRuns::plans_opening))]
 fn open(alloc: Global, plan: &Scenario) -> Result<World, AllocError>
-    requires range { ScenarioInRange plan.now }
-    requires built { IsBuilt plan.now }
+    requires { ScenarioInRange plan.now }
     ensures { IfOk result (λ world. plans_of world.state ≡ plan.now.guests) }
 {
     World::open(alloc, plan)
@@ -96,7 +94,7 @@ fn played(
     plan: &Scenario,
     wanted: &[Answer],
 ) -> Result<(bool, Option<u8>, Option<Usage>), AllocError> {
-    if !plan.is_in_range() || !is_built(plan) {
+    if !plan.is_in_range() {
         return Ok((false, None, None));
     }
     let mut world = open(alloc, plan)?;
@@ -126,7 +124,6 @@ fn an_opened_world_has_unused_pages(rt: HostRuntime) -> Result<(), Fail> {
         vec![in alloc; turn, turn, turn]?,
     )?;
     assert!(rt; plan.is_in_range());
-    assert!(rt; is_built(&plan));
     let world = World::open(alloc, &plan)?;
     assert_eq!(rt; world.answers().len(), 0);
     assert!(rt; world.guests() == 1);
@@ -178,5 +175,55 @@ fn a_failed_write_back_is_made_good_by_the_next_sync(rt: HostRuntime) -> Result<
     let wanted = [1, 4, 2, 2].map(|turns| Answer::Alone(Alone::Finished { turns }));
     let seen = played(alloc, &plan, &wanted)?;
     assert_eq!(rt; seen, (true, Some(0x61), Some(Usage::P)));
+    Ok(())
+}
+
+/// One guest of one page and two swap slots, without files, whose processor has these commands and goes on alone with
+/// each.
+fn swapping(alloc: Global, commands: Vec<Op>) -> Result<Scenario, AllocError> {
+    let schedule = vec![in alloc; Event::Alone { guest: 0, cpu: 0 }; commands.len()]?;
+    let guest = GuestPlan {
+        pages: 1,
+        swap: 2,
+        files: Items::from_vec(Vec::new(alloc)),
+        disk_fail: Items::from_vec(Vec::new(alloc)),
+        pager_fail: Items::from_vec(Vec::new(alloc)),
+        cpus: Items::from_vec(vec![in alloc; processor(commands)]?),
+    };
+    Ok(Scenario {
+        frames: 4,
+        reclaimers: 0,
+        pager_fail: Items::from_vec(Vec::new(alloc)),
+        guests: Items::from_vec(vec![in alloc; guest]?),
+        schedule: Items::from_vec(schedule),
+    })
+}
+
+// The second store writes the first page of the mapping to swap slot 0, and the load gets it back from there. The unmap
+// leaves the guest's page unused.
+#[test]
+fn an_anonymous_page_is_written_to_its_swap_slot(rt: HostRuntime) -> Result<(), Fail> {
+    let alloc = rt.alloc();
+    let second = Op::Store {
+        map: 0,
+        off: 4096,
+        bytes: Bytes64::from_slice(&[0x62]).unwrap(),
+    };
+    let load = Op::Load {
+        map: 0,
+        off: 0,
+        len: 1,
+    };
+    let commands = vec![in alloc;
+        Op::MapAnon { map: 0, count: 2 },
+        store(0x61),
+        second,
+        load,
+        Op::Unmap { map: 0 },
+    ]?;
+    let plan = swapping(alloc, commands)?;
+    let wanted = [1, 4, 7, 7, 3].map(|turns| Answer::Alone(Alone::Finished { turns }));
+    let seen = played(alloc, &plan, &wanted)?;
+    assert_eq!(rt; seen, (true, Some(0x61), Some(Usage::U)));
     Ok(())
 }

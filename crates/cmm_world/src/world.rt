@@ -3,7 +3,6 @@ ghost use Rattle.cmm_types.specs.declared.event.Event.TheVariants.{Cpu, Alone as
 ghost use Rattle.cmm_types.specs.declared.event.Answer.TheVariants.{Turn as TurnAnswer, Alone as AloneAnswer};
 ghost use Rattle.cmm_types.specs.declared.plan.TheConstants.{MAX_GUEST_PAGES};
 ghost use Rattle.cmm_types.specs.InRange.{EventInRange, ScenarioInRange};
-ghost use Rattle.cmm_world.specs.Built.{IsBuilt};
 ghost use Rattle.cmm_world.specs.WorldState.{WorldState, guest_at, disk_at};
 ghost use Rattle.cmm_world.specs.WorldView.{WorldView, opening_view, plans_of, words_in};
 ghost use Rattle.cmm_world.specs.WorldFit.{WorldFit, KeepsWorld};
@@ -11,6 +10,7 @@ ghost use Rattle.cmm_world.specs.Failures.{WorldCounted};
 ghost use Rattle.cmm_world.specs.Run.{applied_answer, answers_of, world_after};
 ghost use Rattle.cmm_world.specs.Steps.{IsStepByStep, AtEach};
 ghost use Rattle.cmm_world.specs.Reached.{ReachesPages};
+ghost use Rattle.cmm_world.specs.Lacking.{LacksRightly};
 ghost use Rattle.cmm_world.specs.Played.{PlaysEvent};
 
 use crate::open::{open_disks, open_guests, open_host};
@@ -59,8 +59,7 @@ fn applied_answer(made: Result<(), ApplyError>) -> Answer
 impl World {
     /// The world of a scenario before its first event. It takes all memory that its events need.
     pub fn open(alloc: Global, plan: &Scenario) -> Result<World, AllocError>
-        requires range { ScenarioInRange plan.now }
-        requires built { IsBuilt plan.now }
+        requires { ScenarioInRange plan.now }
         ensures opening { IfOk result (λ world. world ≡ opening_view plan.now) }
         ensures fit { IfOk result (λ world. WorldFit world.state) }
         ensures failures { IfOk result (λ world. WorldCounted world.state) }
@@ -91,6 +90,9 @@ impl World {
 
         // Each load and store that was neither refused nor failed has reached its page.
         ensures reached { AtEach ReachesPages self.old.state events.now }
+
+        // Each command that fails for the want of a page is of a guest that has none and can make none free.
+        ensures lacks { AtEach LacksRightly self.old.state events.now }
 
         ensures kept { KeepsWorld self.old self.new }
     {

@@ -16,7 +16,7 @@ state c =
     c.in_ok-host.ensures
 
 world : (c : goal.In_ok-answers) → IsWorld (opened c)
-world c = subst IsWorld (sym (state c)) (opening_fits c.args.plan.now c.requires.range c.requires.built)
+world c = subst IsWorld (sym (state c)) (opening_fits c.args.plan.now c.requires)
 
 pub invariant_of-result : goal.invariant_of-result
 invariant_of-result c = (world c, c.in_ok-answers.ensures.capacity)
