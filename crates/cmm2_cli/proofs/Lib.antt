@@ -1,2 +1,4 @@
+mod AcceptedRuns
 mod FromGuest
+mod Sums
 mod Taken

@@ -1,4 +1,6 @@
 pub mod Reports
 pub mod Status
 pub mod Refusal
+pub mod Playing
+pub mod Demo
 pub mod Outcome

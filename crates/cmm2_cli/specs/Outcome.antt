@@ -11,15 +11,26 @@ use Rattle.cmm_scenario.specs.Scenario.{scenario_of}
 use Rattle.cmm_generate.specs.Generated.{generated}
 use Rattle.cmm_generate.specs.Text.{scenario_text}
 use Rattle.cmm_report.specs.Report.{report_of}
-use Rattle.cmm_world.specs.Built.{IsBuilt}
+use Rattle.cmm_check.specs.declared.judging.TheConstants.{MAX_CHECKED}
+use Rattle.cmm_check.specs.declared.judging.InputError.{InputError}
+use Rattle.cmm_check.specs.declared.judging.InputError.TheVariants as input_errors
+use Rattle.cmm_check.specs.declared.verdict.Verdict.{Verdict}
+use Rattle.cmm_check.specs.declared.verdict.Verdict.TheVariants as verdicts
+use Rattle.cmm_check.specs.Verdict.{verdict_of}
+use Rattle.cmm_check.specs.Judge.{IsJudged}
+use Rattle.cmm_check.specs.VerdictLine.{verdict_line}
 use Rattle.cmm_world.specs.Run.{run_of}
 use Rattle.cmm_world.specs.Headline.{IsLegalRun}
 use Rattle.cmm2_cli.specs.declared.replay.TheConstants.{MAX_INPUT}
-use Rattle.cmm2_cli.specs.declared.refusal.Refusal.TheVariants.{Long, NotJson, Unbuilt}
+use Rattle.cmm2_cli.specs.declared.input.Input.{Input}
+use Rattle.cmm2_cli.specs.declared.input.Input.TheVariants.{Scenario as ScenarioInput, Report}
+use Rattle.cmm2_cli.specs.declared.refusal.Refusal.TheVariants.{Long, NoReport, NotJson}
 use Rattle.cmm2_cli.specs.declared.status.Status.{Status}
 use Rattle.cmm2_cli.specs.declared.status.Status.TheVariants.{Done, ScenarioRefused, ReadFault, WriteFault, NoMemory}
+use Rattle.cmm2_cli.specs.Status.{verdict_status}
 use Rattle.cmm2_cli.specs.Refusal.{refusal_text, fault_text}
 use Rattle.cmm2_cli.specs.Reports.{reports_of}
+use Rattle.cmm2_cli.specs.Demo.{demo_text}
 
 -- the text of the scenario that is generated from a number, and a line feed
 abbrev pub generated_text : (start size : ℕ) → List ℕ
@@ -48,46 +59,74 @@ module _ {K : Type 0} (faults : K → ℕ) (written : K → Option (List ℕ)) (
     pub same : new ≡ old
 
   -- the report is that of the run of the plan: the answers to its events, and of each guest the journal, the discards and the faults. Each
-  -- journal is legal, no step of the run discards a page that its guest needs, and no more commands fail than calls are planned to
+  -- journal is legal, no step of the run discards a page that its guest needs, and no more commands fail than calls are planned to; and `check`
+  -- accepts that report
   pub record Plays (plan : Scenario) (result : Status) : Type 0 where
     pub report : Answers (report_of false (run_of plan).0 (reports_of (run_of plan).1)) Done result
     pub run : IsLegalRun plan
+    pub accepted : verdict_of plan (report_of false (run_of plan).0 (reports_of (run_of plan).1)) ≡ verdicts.Accepted
 
-  -- a plan is played where it is built
-  abbrev pub AnswersPlan : Scenario → Status → Type 0
-  AnswersPlan plan result = (IsBuilt plan × Plays plan result) ⊎ (¬ IsBuilt plan × Answers (refusal_text Unbuilt) ScenarioRefused result)
+  -- the line of totals is that of the run of the scenario that is generated from a number, which is legal
+  pub record Demonstrates (start size : ℕ) (result : Status) : Type 0 where
+    pub summary : Answers (demo_text start size) Done result
+    pub run : IsLegalRun (generated start size)
 
-  -- what the bytes mean decides the line of a refusal
+  -- what the bytes mean is played, or decides the line of a refusal
   abbrev pub AnswersReading : Result Scenario ScenarioError → Status → Type 0
-  AnswersReading (Ok plan) result = AnswersPlan plan result
+  AnswersReading (Ok plan) result = Plays plan result
   AnswersReading (Err errors.NotJson) result = Answers (refusal_text NotJson) ScenarioRefused result
   AnswersReading (Err (errors.Fault path kind)) result = Answers (fault_text path kind) ScenarioRefused result
   AnswersReading (Err errors.NoMemory) result = ⊥
 
-  -- an input within the limit is read
-  abbrev pub AnswersBytes : List ℕ → Status → Type 0
-  AnswersBytes bytes result = AnswersReading (scenario_of bytes) result ⊎ WroteNothing NoMemory result
+  -- a scenario is read
+  abbrev pub AnswersScenario : List ℕ → Status → Type 0
+  AnswersScenario bytes result = AnswersReading (scenario_of bytes) result ⊎ WroteNothing NoMemory result
+
+  -- a verdict is told, and the status is its own; and each refusal has its line
+  abbrev pub AnswersJudged : Result Verdict InputError → Status → Type 0
+  AnswersJudged (Ok verdict) result = Answers (verdict_line verdict) (verdict_status verdict) result
+  AnswersJudged (Err input_errors.NoReport) result = Answers (refusal_text NoReport) ScenarioRefused result
+  AnswersJudged (Err input_errors.LongScenario) result = Answers (refusal_text Long) ScenarioRefused result
+  AnswersJudged (Err input_errors.NotJson) result = Answers (refusal_text NotJson) ScenarioRefused result
+  AnswersJudged (Err (input_errors.Fault path kind)) result = Answers (fault_text path kind) ScenarioRefused result
+  AnswersJudged (Err input_errors.NoMemory) result = WroteNothing NoMemory result
+
+  -- a scenario, a line feed and a report are judged
+  pub record AnswersReport (bytes : List ℕ) (result : Status) : Type 0 where
+    pub judgement : Result Verdict InputError
+    pub is : IsJudged bytes judgement
+    pub answer : AnswersJudged judgement result
+
+  -- an input within the limit has the answer that its bytes mean
+  abbrev pub AnswersBytes : Input → List ℕ → Status → Type 0
+  AnswersBytes ScenarioInput bytes result = AnswersScenario bytes result
+  AnswersBytes Report bytes result = AnswersReport bytes result
+
+-- the most bytes of an input
+abbrev pub limit_of : Input → ℕ
+limit_of ScenarioInput = MAX_INPUT
+limit_of Report = MAX_CHECKED
 
 -- the bytes of an input that the program takes: of one that is longer than the limit, one more than the limit
-abbrev pub taken_of : List ℕ → List ℕ
-taken_of bytes = take (MAX_INPUT + 1) bytes
+abbrev pub taken_of : Input → List ℕ → List ℕ
+taken_of input bytes = take (limit_of input + 1) bytes
 
-module _ {S : Type 0} (rest : S → Option (List ℕ)) (given : S → ℕ) (before after : S) {K : Type 0} (faults : K → ℕ) (written : K → Option (List ℕ)) (old new : K) where
+module _ {S : Type 0} (rest : S → Option (List ℕ)) (given : S → ℕ) (before after : S) {K : Type 0} (faults : K → ℕ) (written : K → Option (List ℕ)) (old new : K) (input : Input) where
   -- an input that is longer than the limit is refused
   pub record RefusesLong (bytes : List ℕ) (result : Status) : Type 0 where
-    pub long : MAX_INPUT < length bytes
-    pub taken : HasTaken rest given before after (taken_of bytes)
+    pub long : limit_of input < length bytes
+    pub taken : HasTaken rest given before after (taken_of input bytes)
     pub answer : Answers faults written old new (refusal_text Long) ScenarioRefused result
 
   -- another one is read whole
   pub record AnswersWhole (bytes : List ℕ) (result : Status) : Type 0 where
-    pub short : length bytes ≤ MAX_INPUT
-    pub taken : HasTaken rest given before after (taken_of bytes)
-    pub answer : AnswersBytes faults written old new bytes result
+    pub short : length bytes ≤ limit_of input
+    pub taken : HasTaken rest given before after (taken_of input bytes)
+    pub answer : AnswersBytes faults written old new input bytes result
 
   -- memory ran out before all of it was read
   pub record ReadsNoMore (result : Status) : Type 0 where
-    pub taken : HasTakenAtMost rest given before after (MAX_INPUT + 1)
+    pub taken : HasTakenAtMost rest given before after (limit_of input + 1)
     pub answer : WroteNothing faults written old new NoMemory result
 
   abbrev pub AnswersInput : List ℕ → Status → Type 0

@@ -1,8 +1,13 @@
 //! The program's calls: words and bytes in, a status and bytes out.
 #![tactic(auto)]
 
+mod demo;
 mod fault;
 mod generated;
+mod input;
+mod judging;
+mod numbers;
+mod playing;
 mod program;
 mod refusal;
 mod replay;
@@ -11,6 +16,7 @@ mod status;
 #[cfg(test)]
 mod tests;
 
+pub use input::Input;
 pub use program::cmm2_replay;
 pub use replay::MAX_INPUT;
 pub use report::write_replay;

@@ -9,12 +9,12 @@ use cmm_scenario::Kind;
 pub enum Refusal {
     /// The words aren't a command line of the program.
     Words,
-    /// The input is longer than 16,777,216 bytes.
+    /// The input, or the scenario in it, is longer than the program reads.
     Long,
+    /// The input has no report behind a line feed.
+    NoReport,
     /// The input isn't JSON.
     NotJson,
-    /// The scenario can't be played yet.
-    Unbuilt,
 }
 
 impl Refusal {
@@ -25,8 +25,8 @@ impl Refusal {
         match self {
             Refusal::Words => b"refused words\n",
             Refusal::Long => b"refused long\n",
+            Refusal::NoReport => b"refused report\n",
             Refusal::NotJson => b"refused json\n",
-            Refusal::Unbuilt => b"refused / unbuilt\n",
         }
     }
 
@@ -35,7 +35,7 @@ impl Refusal {
     {
         match self {
             Refusal::Words => Status::Usage,
-            Refusal::Long | Refusal::NotJson | Refusal::Unbuilt => Status::ScenarioRefused,
+            Refusal::Long | Refusal::NoReport | Refusal::NotJson => Status::ScenarioRefused,
         }
     }
 }

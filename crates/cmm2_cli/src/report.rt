@@ -1,5 +1,6 @@
 // The report of a replay, put together from its parts.
-ghost use Rattle.std.specs.Prelude.{◌≡◌, ◌<◌, ◌++◌, length, false};
+ghost use Rattle.std.specs.Prelude.{◌≡◌, ◌<◌, ◌≤◌, ◌*◌, ◌^◌, ◌++◌, length, false};
+ghost use Rattle.cmm_types.specs.declared.plan.TheConstants.{MAX_GUEST_PAGES};
 ghost use Rattle.cmm_io.specs.SinkBytes.{Writes};
 ghost use Rattle.cmm_report.specs.Lines.{head_line};
 ghost use Rattle.cmm_report.specs.Report.{events_text, guest_text, guests_text, report_of};
@@ -19,9 +20,10 @@ fn write_answers<K: Sink>(out: &mut K, answers: &[Answer]) -> Result<(), WriteFa
 }
 
 /// How often a page of the guest was discarded.
-fn discards(world: &World, guest: u32) -> u64
+pub fn discards(world: &World, guest: u32) -> u64
     requires { guest < length world.now.state.guests }
-    ensures { result ≡ discards_of world.now.state guest }
+    ensures sum { result ≡ discards_of world.now.state guest }
+    ensures most { result ≤ MAX_GUEST_PAGES * 2 ^ 32 }
 {
     let mut discards = 0;
     for word in world.words(guest) {

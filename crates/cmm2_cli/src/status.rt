@@ -5,7 +5,7 @@ pub enum Status {
     Done,
     /// The words aren't a command line of the program.
     Usage,
-    /// The input is no scenario that the program plays.
+    /// The input is no scenario that the program plays, or has no report.
     ScenarioRefused,
     /// The input couldn't be read.
     ReadFault,
@@ -13,13 +13,15 @@ pub enum Status {
     WriteFault,
     /// There was no memory, before anything was written.
     NoMemory,
+    /// The report isn't legal for its scenario. The line that says so was written whole.
+    Rejected,
 }
 
 impl Status {
     ghost use Rattle.std.specs.Prelude.{◌≡◌};
-    ghost use Rattle.cmm2_cli.specs.Status.{code_of};
+    ghost use Rattle.cmm2_cli.specs.Status.{code_of, has_written};
 
-    /// The program's exit status, 0 to 5.
+    /// The program's exit status, 0 to 6.
     pub fn code(self) -> u8
         ensures { result ≡ code_of self }
     {
@@ -30,6 +32,18 @@ impl Status {
             Status::ReadFault => 3,
             Status::WriteFault => 4,
             Status::NoMemory => 5,
+            Status::Rejected => 6,
+        }
+    }
+
+    /// Whether the program ended with its text written whole: the answer, or the line of a refusal.
+    pub fn has_written(self) -> bool
+        ensures { result ≡ has_written self }
+    {
+        match self {
+            Status::Done | Status::Usage => true,
+            Status::ScenarioRefused | Status::Rejected => true,
+            Status::ReadFault | Status::WriteFault | Status::NoMemory => false,
         }
     }
 }

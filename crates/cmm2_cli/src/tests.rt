@@ -72,6 +72,10 @@ fn replay_words(alloc: Global) -> Result<Vec<String>, Fail> {
     Ok(vec![in alloc; String::from_str(alloc, "replay")?]?)
 }
 
+fn check_words(alloc: Global) -> Result<Vec<String>, Fail> {
+    Ok(vec![in alloc; String::from_str(alloc, "check")?]?)
+}
+
 #[test]
 fn a_scenario_gives_its_report(rt: HostRuntime) -> Result<(), Fail> {
     let table = [
@@ -110,6 +114,60 @@ fn too_long_an_input_is_refused(rt: HostRuntime) -> Result<(), Fail> {
     let status = cmm2_replay(rt.alloc(), words.as_slice(), &mut src, &mut out);
     assert_eq!(rt; status, Status::ScenarioRefused);
     assert_eq!(rt; out.bytes(), b"refused long\n".as_slice());
+    Ok(())
+}
+
+#[test]
+fn a_report_gets_its_verdict(rt: HostRuntime) -> Result<(), Fail> {
+    let words = check_words(rt.alloc())?;
+    let whole = format!(in rt.alloc(); "{SMALLEST}\n{SMALLEST_REPORT}")?;
+    let without_end = &whole.as_str()[..whole.len() - 4];
+    let other_guest = format!(in rt.alloc(); "{SMALLEST}\n{LOST_REPORT}")?;
+    let no_scenario = format!(in rt.alloc(); "{{}}\n{SMALLEST_REPORT}")?;
+    let table = [
+        (whole.as_str(), Status::Done, "accepted\n"),
+        (without_end, Status::Rejected, "rejected 7\n"),
+        (other_guest.as_str(), Status::Rejected, "rejected 5\n"),
+        (SMALLEST, Status::ScenarioRefused, "refused report\n"),
+        (SMALLEST_REPORT, Status::ScenarioRefused, "refused report\n"),
+        (
+            no_scenario.as_str(),
+            Status::ScenarioRefused,
+            "refused /version missing\n",
+        ),
+    ];
+    for (input, wanted, text) in table {
+        let mut out = sink(rt.alloc(), 0)?;
+        let status = cmm2_replay(
+            rt.alloc(),
+            words.as_slice(),
+            &mut source(rt.alloc(), input, 0)?,
+            &mut out,
+        );
+        assert_eq!(rt; out.bytes(), text.as_bytes());
+        assert_eq!(rt; status, wanted);
+    }
+    Ok(())
+}
+
+#[test]
+fn a_verdict_that_cant_be_written_is_a_write_fault(rt: HostRuntime) -> Result<(), Fail> {
+    let words = check_words(rt.alloc())?;
+    let whole = format!(in rt.alloc(); "{SMALLEST}\n{SMALLEST_REPORT}")?;
+    for (failing_read, failing_write, wanted) in [
+        (0, 1, Status::WriteFault),
+        (1, 0, Status::ReadFault),
+    ] {
+        let mut out = sink(rt.alloc(), failing_write)?;
+        let status = cmm2_replay(
+            rt.alloc(),
+            words.as_slice(),
+            &mut source(rt.alloc(), whole.as_str(), failing_read)?,
+            &mut out,
+        );
+        assert_eq!(rt; status, wanted);
+        assert!(rt; out.bytes().is_empty());
+    }
     Ok(())
 }
 
@@ -187,12 +245,32 @@ fn a_sink_that_fails_at_a_write_has_the_lines_before(rt: HostRuntime) -> Result<
     Ok(())
 }
 
+fn numbered_words(alloc: Global, name: &str) -> Result<Vec<String>, Fail> {
+    let name = String::from_str(alloc, name)?;
+    let start = String::from_str(alloc, "7")?;
+    let size = String::from_str(alloc, "8")?;
+    Ok(vec![in alloc; name, start, size]?)
+}
+
+#[test]
+fn demo_reads_nothing_and_writes_one_line(rt: HostRuntime) -> Result<(), Fail> {
+    let words = numbered_words(rt.alloc(), "demo")?;
+    for (failing_write, wanted) in [(0, Status::Done), (1, Status::WriteFault)] {
+        // The first read would fail.
+        let mut src = source(rt.alloc(), SMALLEST, 1)?;
+        let mut out = sink(rt.alloc(), failing_write)?;
+        let status = cmm2_replay(rt.alloc(), words.as_slice(), &mut src, &mut out);
+        assert_eq!(rt; status, wanted);
+        assert_eq!(rt; src.faults(), 0);
+        let line = b"cmm2-demo 1 start 7 size 8 events ".as_slice();
+        assert_eq!(rt; out.bytes().starts_with(line), failing_write == 0);
+    }
+    Ok(())
+}
+
 #[test]
 fn gen_reads_nothing(rt: HostRuntime) -> Result<(), Fail> {
-    let name = String::from_str(rt.alloc(), "gen")?;
-    let start = String::from_str(rt.alloc(), "7")?;
-    let size = String::from_str(rt.alloc(), "8")?;
-    let words = vec![in rt.alloc(); name, start, size]?;
+    let words = numbered_words(rt.alloc(), "gen")?;
     for (failing_write, wanted) in [(0, Status::Done), (1, Status::WriteFault)] {
         // The first read would fail.
         let mut src = source(rt.alloc(), SMALLEST, 1)?;

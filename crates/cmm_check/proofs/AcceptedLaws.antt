@@ -1,5 +1,6 @@
 -- What is accepted is a legal report.
-use Rattle.std.proofs.Common.{◌≡◌, ◌∙◌, ℕ, zero, suc, ◌+◌, ◌-◌, ◌^◌, ◌<◌, ◌≤◌, ◌⊎◌, inl, inr, Bool, true, false, cond, List, [], ◌∷◌, ◌++◌, Option, Some, None, Result, Ok, Err, length, refl, sym, ap, subst, arith, append_assoc}
+use Rattle.std.proofs.Common.{◌≡◌, ◌∙◌, ℕ, zero, suc, ◌+◌, ◌^◌, ◌<◌, ◌≤◌, ◌⊎◌, inl, inr, Bool, true, false, cond, List, [], ◌∷◌, ◌++◌, Option, Some, None, Result}
+use Rattle.std.proofs.Common.{Ok, Err, length, refl, sym, ap, subst, arith, append_assoc}
 use Rattle.std.specs.Prelude.{◌&&◌, ◌||◌, ◌==◌, nat_le, nat_lt, is_none, is_some, if◌then◌else◌, codes, decimal, sum_by}
 use Rattle.std.specs.List.{AllByRecursion}
 use Rattle.std.specs.Str.{bytes_eq}
@@ -23,7 +24,8 @@ use Rattle.cmm_types.specs.declared.command.Entry.{Entry}
 use Rattle.cmm_flat.specs.Flat.{refusal_of, flat_step}
 use Rattle.cmm_flat.specs.Failures.{is_disk_failure, is_paging_failure, replies_of, disk_failures, paging_failures}
 use Rattle.cmm_flat.specs.Laws.FlatLaws.{never_fails}
-use Rattle.cmm_flat.specs.Legal.{Walk, CanFail, CanNeedPage, HasNoPage, IsReply, IsNext, progress_of, command_of, process_of, over_live, pinned_pages, anonymous_pages, LegalFrom, Legal, Complete, all_commands, after}
+use Rattle.cmm_flat.specs.Legal.{Walk, CanFail, CanNeedPage, HasNoPage, IsReply, IsNext, progress_of, command_of, process_of, over_live, pinned_pages, anonymous_pages}
+use Rattle.cmm_flat.specs.Legal.{LegalFrom, Legal, Complete, all_commands, after}
 use Rattle.cmm_flat.specs.Laws.LegalLaws.{IsReply-from_step}
 use Rattle.cmm_flat.specs.Laws.CountLaws.{complete-from_all}
 use Rattle.cmm_report.specs.Texts.{answer_text, reply_text}
@@ -33,14 +35,14 @@ use Rattle.cmm_report.proofs.JournalLaws.{unended}
 use Rattle.cmm_report.proofs.ReportLaws.{event_text}
 use Rattle.cmm_scenario.specs.Outcome.{◌>>=◌}
 use Rattle.cmm_check.specs.declared.verdict.Verdict.TheVariants.{Accepted}
-use Rattle.cmm_check.specs.Reading.{cut, behind, long_of, number_of}
+use Rattle.cmm_check.specs.Reading.{cut, without_front, long_of, numeral_of}
 use Rattle.cmm_check.specs.Entries.{cause_of, entry_head}
 use Rattle.cmm_check.specs.Answers.{AnswerFits, answer_of, event_head}
-use Rattle.cmm_check.specs.Heads.{is_run_of, is_answer, event_fits, counts_of, entries_of, guest_head, are_entries, entries_told, end_of}
-use Rattle.cmm_check.specs.Journal.{Seen, start_seen, can_fail, can_need_page, has_no_page, may_fail, entry_due, reply_with, disk_left, paging_left, after_entry, entry_at, entry_fits}
+use Rattle.cmm_check.specs.Heads.{is_run_of, is_answer, event_fits, counts_of, guest_counts, guest_head, are_entries, entries_told, end_of}
+use Rattle.cmm_check.specs.Journal.{LinesWalked, no_lines_walked, can_fail, can_need_page, has_no_page, may_fail, entry_due, reply_with, disk_left, paging_left, after_entry, journal_entry, entry_fits}
 use Rattle.cmm_check.specs.Verdict.{with_line, with_cut, line_that, events_fit, entries_fit, guest_fits, guests_fit, ended, end_fits, schedule_fits, report_fits, verdict_with, verdict_of}
 use Rattle.cmm_check.specs.Accepted.{IsLegalGuest, AreLegalGuests, LegalReport}
-use Rattle.cmm_check.proofs.ReadingLaws.{some_then, some_same, given_holds, same_bytes, cut-parts, behind-is, long_of-read, number_of-read}
+use Rattle.cmm_check.proofs.ReadingLaws.{some_then, some_same, given_holds, same_bytes, cut-parts, without_front-is, long_of-read, numeral_of-read}
 use Rattle.cmm_check.proofs.EntryLaws.{cause_of-read, entry_head-read}
 use Rattle.cmm_check.proofs.AnswerLaws.{answer_of-read, event_head-read}
 
@@ -83,13 +85,13 @@ no_refusal : (o : Option FlatRefusal) → is_none o ≡ true → o ≡ None
 no_refusal None h = refl
 no_refusal (Some refusal) h = cc h
 
-failure : (plan : GuestPlan) (seen : Seen) (process : ℕ) (op : Op) (cause : Cause) → may_fail plan seen process op cause ≡ true → IsReply plan seen.walk process op (Fail cause)
-failure plan seen process op Disk h = fails op (and_parts (can_fail op) (nat_lt 0 seen.disk) h).0
-failure plan seen process op Paging h = fails op (and_parts (can_fail op) (nat_lt 0 seen.paging) h).0
-failure plan seen process op (NoPage pinned unslotted) h =
-    let both = and_parts (can_need_page op && is_none (refusal_of seen.walk.flat process op)) (has_no_page plan seen.walk pinned unslotted) h in
-    let front = and_parts (can_need_page op) (is_none (refusal_of seen.walk.flat process op)) both.0 in
-    (needs op front.0, no_refusal (refusal_of seen.walk.flat process op) front.1, no_page plan seen.walk pinned unslotted both.1)
+failure : (plan : GuestPlan) (walked : LinesWalked) (process : ℕ) (op : Op) (cause : Cause) → may_fail plan walked process op cause ≡ true → IsReply plan walked.walk process op (Fail cause)
+failure plan walked process op Disk h = fails op (and_parts (can_fail op) (nat_lt 0 walked.disk) h).0
+failure plan walked process op Paging h = fails op (and_parts (can_fail op) (nat_lt 0 walked.paging) h).0
+failure plan walked process op (NoPage pinned unslotted) h =
+    let both = and_parts (can_need_page op && is_none (refusal_of walked.walk.flat process op)) (has_no_page plan walked.walk pinned unslotted) h in
+    let front = and_parts (can_need_page op) (is_none (refusal_of walked.walk.flat process op)) both.0 in
+    (needs op front.0, no_refusal (refusal_of walked.walk.flat process op) front.1, no_page plan walked.walk pinned unslotted both.1)
 
 -- ---- what is left of the failures
 
@@ -100,57 +102,58 @@ pub replies-cons : (kind : Reply → Bool) (entry : Entry) (journal : List Entry
 replies-cons kind entry journal = sum_by-cons (λ (e : Entry). one_if (kind e.reply)) entry journal
 
 -- the reply and those that may come after it are no more than may come here
-pub record Counted (seen : Seen) (reply : Reply) : Type 0 where
-  pub disk : one_if (is_disk_failure reply) + disk_left seen.disk reply ≤ seen.disk
-  pub paging : one_if (is_paging_failure reply) + paging_left seen.paging reply ≤ seen.paging
+pub record Counted (walked : LinesWalked) (reply : Reply) : Type 0 where
+  pub disk : one_if (is_disk_failure reply) + disk_left walked.disk reply ≤ walked.disk
+  pub paging : one_if (is_paging_failure reply) + paging_left walked.paging reply ≤ walked.paging
 
-counted_failure : (plan : GuestPlan) (seen : Seen) (process : ℕ) (op : Op) (cause : Cause) → may_fail plan seen process op cause ≡ true → Counted seen (Fail cause)
-counted_failure plan seen process op Disk h = let some = ltb-true 0 seen.disk (and_parts (can_fail op) (nat_lt 0 seen.disk) h).1 in record { disk = omega arith; paging = omega arith }
-counted_failure plan seen process op Paging h = let some = ltb-true 0 seen.paging (and_parts (can_fail op) (nat_lt 0 seen.paging) h).1 in record { disk = omega arith; paging = omega arith }
-counted_failure plan seen process op (NoPage pinned unslotted) h = record { disk = omega arith; paging = omega arith }
+counted_failure : (plan : GuestPlan) (walked : LinesWalked) (process : ℕ) (op : Op) (cause : Cause) → may_fail plan walked process op cause ≡ true → Counted walked (Fail cause)
+counted_failure plan walked process op Disk h = let some = ltb-true 0 walked.disk (and_parts (can_fail op) (nat_lt 0 walked.disk) h).1 in record { disk = omega arith; paging = omega arith }
+counted_failure plan walked process op Paging h = let some = ltb-true 0 walked.paging (and_parts (can_fail op) (nat_lt 0 walked.paging) h).1 in record { disk = omega arith; paging = omega arith }
+counted_failure plan walked process op (NoPage pinned unslotted) h = record { disk = omega arith; paging = omega arith }
 
-counted_reply : (plan : GuestPlan) (seen : Seen) (process : ℕ) (op : Op) (reply : Reply) → reply ≡ (flat_step seen.walk.flat process op).1 → Counted seen reply
-counted_reply plan seen process op Done e = record { disk = omega arith; paging = omega arith }
-counted_reply plan seen process op (Bytes bytes) e = record { disk = omega arith; paging = omega arith }
-counted_reply plan seen process op (Refused refusal) e = record { disk = omega arith; paging = omega arith }
-counted_reply plan seen process op (Fail cause) e = absurd (never_fails seen.walk.flat process op cause (sym e))
+counted_reply : (plan : GuestPlan) (walked : LinesWalked) (process : ℕ) (op : Op) (reply : Reply) → reply ≡ (flat_step walked.walk.flat process op).1 → Counted walked reply
+counted_reply plan walked process op Done e = record { disk = omega arith; paging = omega arith }
+counted_reply plan walked process op (Bytes bytes) e = record { disk = omega arith; paging = omega arith }
+counted_reply plan walked process op (Refused refusal) e = record { disk = omega arith; paging = omega arith }
+counted_reply plan walked process op (Fail cause) e = absurd (never_fails walked.walk.flat process op cause (sym e))
 
 -- ---- the reply that a line says
 
-record Replied (plan : GuestPlan) (seen : Seen) (process : ℕ) (op : Op) (text : List ℕ) (reply : Reply) : Type 0 where
+record Replied (plan : GuestPlan) (walked : LinesWalked) (process : ℕ) (op : Op) (text : List ℕ) (reply : Reply) : Type 0 where
   text_of : text ≡ reply_text reply
-  allowed : IsReply plan seen.walk process op reply
-  counted : Counted seen reply
+  allowed : IsReply plan walked.walk process op reply
+  counted : Counted walked reply
 
-replied_with : (plan : GuestPlan) (seen : Seen) (process : ℕ) (op : Op) (text : List ℕ) (reply : Reply) (o : Option Cause) → cause_of text ≡ o → reply_with plan seen process op text o ≡ Some reply
-    → Replied plan seen process op text reply
-replied_with plan seen process op text reply (Some cause) read e =
-    let holds = given_holds (may_fail plan seen process op cause) (Fail cause) reply e in
-    let made : Replied plan seen process op text (Fail cause) = record {
+replied_with : (plan : GuestPlan) (walked : LinesWalked) (process : ℕ) (op : Op) (text : List ℕ) (reply : Reply) (o : Option Cause) → cause_of text ≡ o
+    → reply_with plan walked process op text o ≡ Some reply
+    → Replied plan walked process op text reply
+replied_with plan walked process op text reply (Some cause) read e =
+    let holds = given_holds (may_fail plan walked process op cause) (Fail cause) reply e in
+    let made : Replied plan walked process op text (Fail cause) = record {
       text_of = (cause_of-read text cause read).text_of;
-      allowed = failure plan seen process op cause holds.0;
-      counted = counted_failure plan seen process op cause holds.0;
+      allowed = failure plan walked process op cause holds.0;
+      counted = counted_failure plan walked process op cause holds.0;
     } in
-    subst (Replied plan seen process op text) holds.1 made
-replied_with plan seen process op text reply None read e =
-    let flat = (flat_step seen.walk.flat process op).1 in
+    subst (Replied plan walked process op text) holds.1 made
+replied_with plan walked process op text reply None read e =
+    let flat = (flat_step walked.walk.flat process op).1 in
     let holds = given_holds (bytes_eq text (reply_text flat)) flat reply e in
-    let made : Replied plan seen process op text flat = record {
+    let made : Replied plan walked process op text flat = record {
       text_of = same_bytes text (reply_text flat) holds.0;
-      allowed = IsReply-from_step plan seen.walk process op flat refl;
-      counted = counted_reply plan seen process op flat refl;
+      allowed = IsReply-from_step plan walked.walk process op flat refl;
+      counted = counted_reply plan walked process op flat refl;
     } in
-    subst (Replied plan seen process op text) holds.1 made
+    subst (Replied plan walked process op text) holds.1 made
 
 -- ---- entries
 
 -- the entry that a line says, which may come next
-pub record Entered (plan : GuestPlan) (seen : Seen) (text : List ℕ) (next : Seen) : Type 0 where
+pub record Entered (plan : GuestPlan) (walked : LinesWalked) (text : List ℕ) (next : LinesWalked) : Type 0 where
   pub entry : Entry
   pub text_of : text ≡ unended entry
-  pub may_come : IsNext plan seen.walk entry
-  pub leads : next ≡ after_entry plan seen entry
-  pub counted : Counted seen entry.reply
+  pub may_come : IsNext plan walked.walk entry
+  pub leads : next ≡ after_entry plan walked entry
+  pub counted : Counted walked entry.reply
 
 entry_due-read : (plan : GuestPlan) (walk : Walk) (cpu k : ℕ) (op : Op) → entry_due plan walk cpu k ≡ Some op → (command_of plan cpu k ≡ Some op) × ((progress_of walk cpu).next ≡ k)
 unfolding entry_due
@@ -159,20 +162,20 @@ entry_due-read plan walk cpu k op e =
     let holds = given_holds ((progress_of walk cpu).next == k) found.0 op found.2 in
     (found.1 ∙ ap Some holds.1, eqb-true (progress_of walk cpu).next k holds.0)
 
-pub entry_fits-read : (plan : GuestPlan) (seen : Seen) (text : List ℕ) (next : Seen) → entry_fits plan seen text ≡ Some next → Entered plan seen text next
+pub entry_fits-read : (plan : GuestPlan) (walked : LinesWalked) (text : List ℕ) (next : LinesWalked) → entry_fits plan walked text ≡ Some next → Entered plan walked text next
 unfolding entry_fits
-entry_fits-read plan seen text next e =
+entry_fits-read plan walked text next e =
     let head = some_then (entry_head text) _ next e in
     let cpu = head.0.0 in
     let k = head.0.1.0 in
-    let op = some_then (entry_due plan seen.walk cpu k) _ next head.2 in
-    let reply = some_then (reply_with plan seen (process_of plan cpu) op.0 head.0.1.1 (cause_of head.0.1.1)) _ next op.2 in
+    let op = some_then (entry_due plan walked.walk cpu k) _ next head.2 in
+    let reply = some_then (reply_with plan walked (process_of plan cpu) op.0 head.0.1.1 (cause_of head.0.1.1)) _ next op.2 in
     let is = entry_head-read text head.0 head.1 in
-    let due = entry_due-read plan seen.walk cpu k op.0 op.1 in
-    let says = replied_with plan seen (process_of plan cpu) op.0 head.0.1.1 reply.0 (cause_of head.0.1.1) refl reply.1 in
+    let due = entry_due-read plan walked.walk cpu k op.0 op.1 in
+    let says = replied_with plan walked (process_of plan cpu) op.0 head.0.1.1 reply.0 (cause_of head.0.1.1) refl reply.1 in
     let front = decimal cpu ++ codes " " ++ decimal k ++ codes " " in
     record {
-      entry = entry_at cpu k op.0 reply.0;
+      entry = journal_entry cpu k op.0 reply.0;
       text_of = is.whole ∙ ap (λ t. front ++ t) says.text_of;
       may_come = record { number = sym due.1; command = due.0; reply = says.allowed };
       leads = sym (some_same _ next reply.2);
@@ -194,7 +197,8 @@ pub line_that-read : {A : Type 0} (reads : List ℕ → Option A) (text : List �
 unfolding line_that
 line_that-read {A} reads text next e = at (cut 10 text) refl e
   where
-    of : (parts : List ℕ × List ℕ) → cut 10 text ≡ Some parts → (o : Option A) → reads parts.0 ≡ o → ◌≡◌ {A = Result (A × List ℕ) (List ℕ)} (with_line text parts.1 o) (Ok next) → LineOf reads text next.0 next.1
+    of : (parts : List ℕ × List ℕ) → cut 10 text ≡ Some parts → (o : Option A) → reads parts.0 ≡ o → ◌≡◌ {A = Result (A × List ℕ) (List ℕ)} (with_line text parts.1 o) (Ok next)
+        → LineOf reads text next.0 next.1
     of parts is_cut None said h = cc h
     of parts is_cut (Some x) said h =
         let made : LineOf reads text x parts.1 = record { words = parts.0; says = said; whole = (cut-parts 10 text parts.0 parts.1 is_cut).whole ∙ sym (append_assoc parts.0 (10 ∷ []) parts.1) } in
@@ -206,13 +210,13 @@ line_that-read {A} reads text next e = at (cut 10 text) refl e
 
 -- ---- journals
 
-pub record Journalled (plan : GuestPlan) (seen : Seen) (count : ℕ) (text rest : List ℕ) : Type 0 where
+pub record Journalled (plan : GuestPlan) (walked : LinesWalked) (count : ℕ) (text rest : List ℕ) : Type 0 where
   pub journal : List Entry
   pub many : length journal ≡ count
   pub text_of : text ≡ journal_text journal ++ rest
-  pub legal : LegalFrom plan seen.walk journal
-  pub disk : disk_failures journal ≤ seen.disk
-  pub paging : paging_failures journal ≤ seen.paging
+  pub legal : LegalFrom plan walked.walk journal
+  pub disk : disk_failures journal ≤ walked.disk
+  pub paging : paging_failures journal ≤ walked.paging
 
 ok_text : (r s : List ℕ) → ◌≡◌ {A = Result (List ℕ) (List ℕ)} (Ok r) (Ok s) → r ≡ s
 ok_text r s e = cc
@@ -222,16 +226,17 @@ ok_then : {A : Type 0} (r : Result (A × List ℕ) (List ℕ)) (f : A × List �
 ok_then (Ok x) f rest e = (x, refl, e)
 ok_then (Err left) f rest e = cc e
 
-pub entries_fit-read : (plan : GuestPlan) (seen : Seen) (count : ℕ) (text rest : List ℕ) → ◌≡◌ {A = Result (List ℕ) (List ℕ)} (entries_fit plan seen count text) (Ok rest) → Journalled plan seen count text rest
-entries_fit-read plan seen zero text rest e = record { journal = []; many = refl; text_of = ok_text text rest e; legal = tt; disk = omega arith; paging = omega arith }
-entries_fit-read plan seen (suc count) text rest e =
-    let step = ok_then (line_that (entry_fits plan seen) text) (λ next. entries_fit plan next.0 count next.1) rest e in
-    let read = line_that-read (entry_fits plan seen) text step.0 step.1 in
-    let one = entry_fits-read plan seen read.words step.0.0 read.says in
+pub entries_fit-read : (plan : GuestPlan) (walked : LinesWalked) (count : ℕ) (text rest : List ℕ) → ◌≡◌ {A = Result (List ℕ) (List ℕ)} (entries_fit plan walked count text) (Ok rest)
+    → Journalled plan walked count text rest
+entries_fit-read plan walked zero text rest e = record { journal = []; many = refl; text_of = ok_text text rest e; legal = tt; disk = omega arith; paging = omega arith }
+entries_fit-read plan walked (suc count) text rest e =
+    let step = ok_then (line_that (entry_fits plan walked) text) (λ next. entries_fit plan next.0 count next.1) rest e in
+    let read = line_that-read (entry_fits plan walked) text step.0 step.1 in
+    let one = entry_fits-read plan walked read.words step.0.0 read.says in
     let more = entries_fit-read plan step.0.0 count step.0.1 rest step.2 in
-    let walk : step.0.0.walk ≡ after plan seen.walk one.entry = ap (λ (s : Seen). s.walk) one.leads in
-    let disk : step.0.0.disk ≡ disk_left seen.disk one.entry.reply = ap (λ (s : Seen). s.disk) one.leads in
-    let paging : step.0.0.paging ≡ paging_left seen.paging one.entry.reply = ap (λ (s : Seen). s.paging) one.leads in
+    let walk : step.0.0.walk ≡ after plan walked.walk one.entry = ap (λ (s : LinesWalked). s.walk) one.leads in
+    let disk : step.0.0.disk ≡ disk_left walked.disk one.entry.reply = ap (λ (s : LinesWalked). s.disk) one.leads in
+    let paging : step.0.0.paging ≡ paging_left walked.paging one.entry.reply = ap (λ (s : LinesWalked). s.paging) one.leads in
     record {
       journal = one.entry ∷ more.journal;
       many = omega (arith, more.many);
@@ -314,17 +319,17 @@ record AreCounts (text : List ℕ) (discards faults : ℕ) : Type 0 where
 counts_of-read : (text : List ℕ) (counts : ℕ × ℕ) → counts_of text ≡ Some counts → AreCounts text counts.0 counts.1
 unfolding counts_of
 counts_of-read text counts e =
-    let digits = some_then (behind (codes "discards ") text) _ counts e in
+    let digits = some_then (without_front (codes "discards ") text) _ counts e in
     let parts = some_then (cut 32 digits.0) _ counts digits.2 in
     let discards = some_then (long_of parts.0.0) _ counts parts.2 in
-    let last = some_then (behind (codes "faults ") parts.0.1) _ counts discards.2 in
+    let last = some_then (without_front (codes "faults ") parts.0.1) _ counts discards.2 in
     let faults = some_then (long_of last.0) _ counts last.2 in
     let one = cut-parts 32 digits.0 parts.0.0 parts.0.1 parts.1 in
     let d = long_of-read parts.0.0 discards.0 discards.1 in
     let f = long_of-read last.0 faults.0 faults.1 in
-    let tail : parts.0.1 ≡ codes "faults " ++ decimal faults.0 = behind-is (codes "faults ") parts.0.1 last.0 last.1 ∙ ap (λ t. codes "faults " ++ t) f.0 in
+    let tail : parts.0.1 ≡ codes "faults " ++ decimal faults.0 = without_front-is (codes "faults ") parts.0.1 last.0 last.1 ∙ ap (λ t. codes "faults " ++ t) f.0 in
     let made : AreCounts text discards.0 faults.0 = record {
-      whole = behind-is (codes "discards ") text digits.0 digits.1
+      whole = without_front-is (codes "discards ") text digits.0 digits.1
           ∙ ap (λ t. codes "discards " ++ t) (one.whole ∙ ap (λ t. t ++ (32 ∷ parts.0.1)) d.0 ∙ ap (λ t. decimal discards.0 ++ (32 ∷ t)) tail);
       small = d.1;
     } in
@@ -334,18 +339,18 @@ record AreEntries (text : List ℕ) (entries discards faults : ℕ) : Type 0 whe
   whole : text ≡ codes "entries " ++ (decimal entries ++ (32 ∷ (codes "discards " ++ (decimal discards ++ (codes " faults " ++ decimal faults)))))
   small : discards < 2 ^ 64
 
-entries_of-read : (text : List ℕ) (counts : ℕ × (ℕ × ℕ)) → entries_of text ≡ Some counts → AreEntries text counts.0 counts.1.0 counts.1.1
-unfolding entries_of
-entries_of-read text counts e =
-    let digits = some_then (behind (codes "entries ") text) _ counts e in
+guest_counts-read : (text : List ℕ) (counts : ℕ × (ℕ × ℕ)) → guest_counts text ≡ Some counts → AreEntries text counts.0 counts.1.0 counts.1.1
+unfolding guest_counts
+guest_counts-read text counts e =
+    let digits = some_then (without_front (codes "entries ") text) _ counts e in
     let parts = some_then (cut 32 digits.0) _ counts digits.2 in
-    let entries = some_then (number_of parts.0.0) _ counts parts.2 in
+    let entries = some_then (numeral_of parts.0.0) _ counts parts.2 in
     let rest = some_then (counts_of parts.0.1) _ counts entries.2 in
     let one = cut-parts 32 digits.0 parts.0.0 parts.0.1 parts.1 in
-    let n = number_of-read parts.0.0 entries.0 entries.1 in
+    let n = numeral_of-read parts.0.0 entries.0 entries.1 in
     let is = counts_of-read parts.0.1 rest.0 rest.1 in
     let made : AreEntries text entries.0 rest.0.0 rest.0.1 = record {
-      whole = behind-is (codes "entries ") text digits.0 digits.1
+      whole = without_front-is (codes "entries ") text digits.0 digits.1
           ∙ ap (λ t. codes "entries " ++ t) (one.whole ∙ ap (λ t. t ++ (32 ∷ parts.0.1)) n.0 ∙ ap (λ t. decimal entries.0 ++ (32 ∷ t)) is.whole);
       small = is.small;
     } in
@@ -363,15 +368,15 @@ record IsGuestHead (line : List ℕ) (number entries discards faults : ℕ) : Ty
 guest_head-read : (line : List ℕ) (head : ℕ × (ℕ × (ℕ × ℕ))) → guest_head line ≡ Some head → IsGuestHead line head.0 head.1.0 head.1.1.0 head.1.1.1
 unfolding guest_head
 guest_head-read line head e =
-    let digits = some_then (behind (codes "guest ") line) _ head e in
+    let digits = some_then (without_front (codes "guest ") line) _ head e in
     let parts = some_then (cut 32 digits.0) _ head digits.2 in
-    let guest = some_then (number_of parts.0.0) _ head parts.2 in
-    let rest = some_then (entries_of parts.0.1) _ head guest.2 in
+    let guest = some_then (numeral_of parts.0.0) _ head parts.2 in
+    let rest = some_then (guest_counts parts.0.1) _ head guest.2 in
     let one = cut-parts 32 digits.0 parts.0.0 parts.0.1 parts.1 in
-    let n = number_of-read parts.0.0 guest.0 guest.1 in
-    let is = entries_of-read parts.0.1 rest.0 rest.1 in
+    let n = numeral_of-read parts.0.0 guest.0 guest.1 in
+    let is = guest_counts-read parts.0.1 rest.0 rest.1 in
     let made : IsGuestHead line guest.0 rest.0.0 rest.0.1.0 rest.0.1.1 = record {
-      whole = behind-is (codes "guest ") line digits.0 digits.1
+      whole = without_front-is (codes "guest ") line digits.0 digits.1
           ∙ ap (λ t. codes "guest " ++ t) (one.whole ∙ ap (λ t. t ++ (32 ∷ parts.0.1)) n.0 ∙ ap (λ t. decimal guest.0 ++ (32 ∷ t)) is.whole)
           ∙ sym (guest_parts (codes "guest ") (decimal guest.0) (codes " entries ") (decimal rest.0.0) (codes " discards ") (decimal rest.0.1.0) (codes " faults ") (decimal rest.0.1.1));
       small = is.small;
@@ -420,10 +425,10 @@ record Guested (run : Bool) (number : ℕ) (plan : GuestPlan) (text rest : List 
 guest_fits-read : (run : Bool) (number : ℕ) (plan : GuestPlan) (text rest : List ℕ) → ◌≡◌ {A = Result (List ℕ) (List ℕ)} (guest_fits run number plan text) (Ok rest) → Guested run number plan text rest
 unfolding guest_fits
 guest_fits-read run number plan text rest e =
-    let step = ok_then (line_that (entries_told run number plan) text) (λ next. entries_fit plan (start_seen plan) next.0 next.1) rest e in
+    let step = ok_then (line_that (entries_told run number plan) text) (λ next. entries_fit plan (no_lines_walked plan) next.0 next.1) rest e in
     let read = line_that-read (entries_told run number plan) text step.0 step.1 in
     let told = entries_told-read run number plan read.words step.0.0 read.says in
-    let walked = entries_fit-read plan (start_seen plan) step.0.0 step.0.1 rest step.2 in
+    let walked = entries_fit-read plan (no_lines_walked plan) step.0.0 step.0.1 rest step.2 in
     let head = guest_line number (length walked.journal) told.discards told.faults in
     let words : read.words ≡ guest_words number (length walked.journal) told.discards told.faults = told.whole ∙ ap (λ n. guest_words number n told.discards told.faults) (sym walked.many) in
     let many : are_entries run plan (length walked.journal) ≡ true = subst (λ n. are_entries run plan n ≡ true) (sym walked.many) told.many in
@@ -450,7 +455,8 @@ then_ok : (r : Result (List ℕ) (List ℕ)) (f : List ℕ → Result (List ℕ)
 then_ok (Ok x) f rest e = (x, refl, e)
 then_ok (Err left) f rest e = cc e
 
-guests_fit-read : (run : Bool) (number : ℕ) (plans : List GuestPlan) (text rest : List ℕ) → ◌≡◌ {A = Result (List ℕ) (List ℕ)} (guests_fit run number plans text) (Ok rest) → AllGuested run number plans text rest
+guests_fit-read : (run : Bool) (number : ℕ) (plans : List GuestPlan) (text rest : List ℕ) → ◌≡◌ {A = Result (List ℕ) (List ℕ)} (guests_fit run number plans text) (Ok rest)
+    → AllGuested run number plans text rest
 guests_fit-read run number [] text rest e = record { guests = []; text_of = ok_text text rest e; legal = tt }
 guests_fit-read run number (plan ∷ plans) text rest e =
     let step = then_ok (guest_fits run number plan text) (guests_fit run (number + 1) plans) rest e in
@@ -521,7 +527,8 @@ report_fits-read plan report rest e =
       run = run;
       answers = answers.answers;
       guests = all.guests;
-      text = first.whole ∙ ap (λ t. t ++ head.0.1) (is_run_of-read first.words run first.says) ∙ ap (λ t. head_line run ++ t) (answers.text_of ∙ ap (λ t. events ++ t) (all.text_of ∙ ap (λ t. text ++ t) last))
+      text = first.whole ∙ ap (λ t. t ++ head.0.1) (is_run_of-read first.words run first.says)
+          ∙ ap (λ t. head_line run ++ t) (answers.text_of ∙ ap (λ t. events ++ t) (all.text_of ∙ ap (λ t. text ++ t) last))
           ∙ three_texts (head_line run) events text end_line;
       answered = record { each_event = answers.many; numbers = All-from_recursion AnswerFits answers.answers answers.fits };
       legal = all.legal;

@@ -57,7 +57,9 @@ long_of-large word index large =
 
 pub long_of-is : (word : List ℕ) → has_no_leading_zero word ≡ true → all_ascii_digits word ≡ true → digits_value 10 word < 2 ^ 64 → long_of word ≡ Some (digits_value 10 word)
 unfolding long_of
-long_of-is word first digits small = is_given _ _ (all_hold (has_no_leading_zero word) (all_ascii_digits word) (nat_lt (digits_value 10 word) (2 ^ 64)) first digits (lt-ltb (digits_value 10 word) (2 ^ 64) small))
+long_of-is word first digits small =
+    let is_small : nat_lt (digits_value 10 word) (2 ^ 64) ≡ true = lt-ltb (digits_value 10 word) (2 ^ 64) small in
+    is_given _ _ (all_hold (has_no_leading_zero word) (all_ascii_digits word) (nat_lt (digits_value 10 word) (2 ^ 64)) first digits is_small)
 
 -- one more digit
 pub record More (word : List ℕ) (index number : ℕ) : Type 0 where
@@ -72,7 +74,8 @@ given_small x y h = at (nat_lt x (2 ^ 64)) refl h
     at true test same = (cc, ltb-true x (2 ^ 64) test)
     at false test same = cc same
 
-pub one_more : (word : List ℕ) (index number next : ℕ) → index < length word → is_ascii_digit (get_or word index 0) ≡ true → all_ascii_digits (take index word) ≡ true → number ≡ digits_value 10 (take index word)
+pub one_more : (word : List ℕ) (index number next : ℕ) → index < length word → is_ascii_digit (get_or word index 0) ≡ true → all_ascii_digits (take index word) ≡ true
+    → number ≡ digits_value 10 (take index word)
     → given (nat_lt (number * 10 + (get_or word index 0 - 48)) (2 ^ 64)) (number * 10 + (get_or word index 0 - 48)) ≡ Some next → More word index next
 one_more word index number next within here front value e =
     let more = digits_value_next word index number (get_or word index 0 - 48) within here value refl in
@@ -95,7 +98,8 @@ too_large word index number within here value e =
     let more = digits_value_next word index number (get_or word index 0 - 48) within here value refl in
     long_of-large word (index + 1) (rw (← more) (not_below (number * 10 + (get_or word index 0 - 48)) e))
 
-pub whole_word : (word : List ℕ) (index number : ℕ) → length word ≤ index → has_no_leading_zero word ≡ true → all_ascii_digits (take index word) ≡ true → number ≡ digits_value 10 (take index word) → number < 2 ^ 64 → Some number ≡ long_of word
+pub whole_word : (word : List ℕ) (index number : ℕ) → length word ≤ index → has_no_leading_zero word ≡ true → all_ascii_digits (take index word) ≡ true → number ≡ digits_value 10 (take index word)
+    → number < 2 ^ 64 → Some number ≡ long_of word
 whole_word word index number past plain digits value small =
     let whole = take_all index word past in
     let all : all_ascii_digits word ≡ true = sym (ap all_ascii_digits whole) ∙ digits in

@@ -1,5 +1,6 @@
 -- The line of an entry is read as what it was written of, both ways.
-use Rattle.std.proofs.Common.{◌≡◌, ◌∙◌, ℕ, suc, ◌+◌, ◌*◌, ◌/◌, ◌%◌, ◌^◌, ◌<◌, ◌≤◌, List, [], ◌∷◌, ◌++◌, Bool, true, false, cond, Option, Some, None, Result, Ok, Err, length, refl, sym, ap, subst, arith, append_assoc}
+use Rattle.std.proofs.Common.{◌≡◌, ◌∙◌, ℕ, suc, ◌+◌, ◌*◌, ◌/◌, ◌%◌, ◌^◌, ◌<◌, ◌≤◌, List, [], ◌∷◌, ◌++◌, Bool, true, false, cond, Option, Some, None, Result, Ok, Err}
+use Rattle.std.proofs.Common.{length, refl, sym, ap, subst, arith, append_assoc}
 use Rattle.std.specs.Prelude.{◌&&◌, ◌||◌, nat_le, codes, decimal}
 use Rattle.std.specs.List.{list_any}
 use Rattle.std.specs.Char.{is_ascii_uppercase}
@@ -19,9 +20,10 @@ use Rattle.cmm_report.specs.Texts.{hex_digit, hex_text, flat_refusal_text, cause
 use Rattle.cmm_report.specs.JournalLines.{CauseFits}
 use Rattle.cmm_report.proofs.Splits.{IsFree-decimal}
 use Rattle.cmm_report.proofs.JournalLaws.{three_parts}
-use Rattle.cmm_check.specs.Reading.{cut, behind, number_of, two_numbers, decoded, bytes_of}
-use Rattle.cmm_check.specs.Entries.{IsReported, IsEntryLine, refusals, refusal_named, no_page_of, cause_of, bytes_reply_of, first_reply, reply_of, entry_head, entry_of}
-use Rattle.cmm_check.proofs.ReadingLaws.{then_some, some_then, some_same, not_some, same_bytes, cut-append, cut-parts, behind-append, behind-is, number_of-decimal, number_of-read, two_numbers-text, two_numbers-read, first_named-text}
+use Rattle.cmm_check.specs.Reading.{cut, without_front, numeral_of, two_numbers, decoded, hex_bytes}
+use Rattle.cmm_check.specs.Entries.{IsReported, IsEntryLine, all_refusals, refusal_named, no_page_of, cause_of, bytes_reply_of, first_reply, reply_of, entry_head, entry_of}
+use Rattle.cmm_check.proofs.ReadingLaws.{then_some, some_then, some_same, not_some, same_bytes, cut-append, cut-parts, without_front-append, without_front-is}
+use Rattle.cmm_check.proofs.ReadingLaws.{numeral_of-decimal, numeral_of-read, two_numbers-text, two_numbers-read, first_named-text}
 
 -- ---- bytes
 
@@ -59,9 +61,9 @@ hex_length : (bytes : List ℕ) → length (hex_text bytes) ≡ 2 * length bytes
 hex_length [] = refl
 hex_length (b ∷ bytes) = let rest = hex_length bytes in omega (arith, rest)
 
-pub bytes_of-text : (bytes : List ℕ) → 1 ≤ length bytes → length bytes ≤ 64 → IsBytes bytes → bytes_of (hex_text bytes) ≡ Some bytes
-unfolding bytes_of
-bytes_of-text bytes some few fits =
+pub hex_bytes-text : (bytes : List ℕ) → 1 ≤ length bytes → length bytes ≤ 64 → IsBytes bytes → hex_bytes (hex_text bytes) ≡ Some bytes
+unfolding hex_bytes
+hex_bytes-text bytes some few fits =
     let twice = hex_length bytes in
     let lower = hex_lower bytes fits in
     let least = le-leb 1 (length (hex_text bytes)) (omega (arith, twice)) in
@@ -139,9 +141,9 @@ sized digits bytes lower size e =
     let most = leb-true (length digits) 128 sizes.1 in
     record { text = hex_from 0 digits bytes (sym (decode_of-even digits ok.0) ∙ e) lower; some = omega (arith, ok.2); few = omega (arith, ok.2); fit = ok.3 }
 
-pub bytes_of-read : (digits bytes : List ℕ) → bytes_of digits ≡ Some bytes → AreBytes digits bytes
-unfolding bytes_of
-bytes_of-read digits bytes e = at (list_any is_ascii_uppercase digits) (nat_le 1 (length digits) && nat_le (length digits) 128) refl refl e
+pub hex_bytes-read : (digits bytes : List ℕ) → hex_bytes digits ≡ Some bytes → AreBytes digits bytes
+unfolding hex_bytes
+hex_bytes-read digits bytes e = at (list_any is_ascii_uppercase digits) (nat_le 1 (length digits) && nat_le (length digits) 128) refl refl e
   where
     at : (upper size : Bool) → list_any is_ascii_uppercase digits ≡ upper → (nat_le 1 (length digits) && nat_le (length digits) 128) ≡ size
         → cond upper None (cond size (decoded (decode_of digits)) None) ≡ Some bytes → AreBytes digits bytes
@@ -160,8 +162,8 @@ counts_text pinned unslotted =
 no_page_of-text : (p u : ℕ) → CauseFits (NoPage p u) → no_page_of (cause_text (NoPage p u)) ≡ Some (NoPage p u)
 unfolding no_page_of
 no_page_of-text p u fits =
-    let front = behind-append (codes "fail nopage ") (decimal p ++ (32 ∷ decimal u)) in
-    then_some _ _ (decimal p ++ (32 ∷ decimal u)) _ (ap (behind (codes "fail nopage ")) (counts_text p u) ∙ front)
+    let front = without_front-append (codes "fail nopage ") (decimal p ++ (32 ∷ decimal u)) in
+    then_some _ _ (decimal p ++ (32 ∷ decimal u)) _ (ap (without_front (codes "fail nopage ")) (counts_text p u) ∙ front)
     (then_some _ _ (p, u) _ (two_numbers-text p u fits.0 fits.1) refl)
 
 pub cause_of-text : (cause : Cause) → CauseFits cause → cause_of (cause_text cause) ≡ Some cause
@@ -177,10 +179,10 @@ pub record IsCauseText (text : List ℕ) (cause : Cause) : Type 0 where
 no_page_of-read : (text : List ℕ) (cause : Cause) → no_page_of text ≡ Some cause → IsCauseText text cause
 unfolding no_page_of
 no_page_of-read text cause e =
-    let numbers = some_then (behind (codes "fail nopage ") text) _ cause e in
+    let numbers = some_then (without_front (codes "fail nopage ") text) _ cause e in
     let both = some_then (two_numbers numbers.0) _ cause numbers.2 in
     let two = two_numbers-read numbers.0 both.0.0 both.0.1 both.1 in
-    let front = behind-is (codes "fail nopage ") text numbers.0 numbers.1 in
+    let front = without_front-is (codes "fail nopage ") text numbers.0 numbers.1 in
     let made : IsCauseText text (NoPage both.0.0 both.0.1) = record {
       text_of = front ∙ ap (λ t. codes "fail nopage " ++ t) two.text_of ∙ sym (counts_text both.0.0 both.0.1);
       fits = (two.first, two.second);
@@ -200,7 +202,7 @@ cause_of-read text cause e = at (bytes_eq text (codes "fail disk")) (bytes_eq te
 bytes_reply_of-text : (bytes : List ℕ) → IsReported (Bytes bytes) → bytes_reply_of (reply_text (Bytes bytes)) ≡ Some (Bytes bytes)
 unfolding bytes_reply_of
 bytes_reply_of-text bytes fits =
-    then_some _ _ (hex_text bytes) _ (behind-append (codes "ok ") (hex_text bytes)) (then_some _ _ bytes _ (bytes_of-text bytes fits.0 fits.1 fits.2) refl)
+    then_some _ _ (hex_text bytes) _ (without_front-append (codes "ok ") (hex_text bytes)) (then_some _ _ bytes _ (hex_bytes-text bytes fits.0 fits.1 fits.2) refl)
 
 refusal_named-text : (refusal : FlatRefusal) → refusal_named (flat_refusal_text refusal) ≡ Some refusal
 unfolding refusal_named
@@ -214,7 +216,7 @@ refusal_named-text TooManyMaps = refl
 
 -- a refusal's text is no other's
 pub plain_refusal : (refusal : FlatRefusal) → (bytes_eq (flat_refusal_text refusal) (codes "ok") ≡ false) × (cause_of (flat_refusal_text refusal) ≡ None)
-unfolding cause_of no_page_of behind
+unfolding cause_of no_page_of without_front
 plain_refusal NoMapping = (refl, refl)
 plain_refusal AlreadyMapped = (refl, refl)
 plain_refusal OutOfRange = (refl, refl)
@@ -224,7 +226,7 @@ plain_refusal NotPinned = (refl, refl)
 plain_refusal TooManyMaps = (refl, refl)
 
 pub plain_bytes : (bytes : List ℕ) → (cause_of (reply_text (Bytes bytes)) ≡ None) × (refusal_named (reply_text (Bytes bytes)) ≡ None)
-unfolding cause_of no_page_of behind refusal_named
+unfolding cause_of no_page_of without_front refusal_named
 plain_bytes bytes = (refl, refl)
 
 plain_cause : (cause : Cause) → bytes_eq (cause_text cause) (codes "ok") ≡ false
@@ -263,18 +265,18 @@ pub record IsReplyText (text : List ℕ) (reply : Reply) : Type 0 where
 bytes_reply_of-read : (text : List ℕ) (reply : Reply) → bytes_reply_of text ≡ Some reply → IsReplyText text reply
 unfolding bytes_reply_of
 bytes_reply_of-read text reply e =
-    let digits = some_then (behind (codes "ok ") text) _ reply e in
-    let bytes = some_then (bytes_of digits.0) _ reply digits.2 in
-    let are = bytes_of-read digits.0 bytes.0 bytes.1 in
+    let digits = some_then (without_front (codes "ok ") text) _ reply e in
+    let bytes = some_then (hex_bytes digits.0) _ reply digits.2 in
+    let are = hex_bytes-read digits.0 bytes.0 bytes.1 in
     let made : IsReplyText text (Bytes bytes.0) = record {
-      text_of = behind-is (codes "ok ") text digits.0 digits.1 ∙ ap (λ t. codes "ok " ++ t) are.text;
+      text_of = without_front-is (codes "ok ") text digits.0 digits.1 ∙ ap (λ t. codes "ok " ++ t) are.text;
       reported = (are.some, are.few, are.fit);
     } in
     subst (IsReplyText text) (some_same _ reply bytes.2) made
 
 refusal_named-read : (text : List ℕ) (refusal : FlatRefusal) → refusal_named text ≡ Some refusal → text ≡ flat_refusal_text refusal
 unfolding refusal_named
-refusal_named-read text refusal e = first_named-text flat_refusal_text text refusals refusal e
+refusal_named-read text refusal e = first_named-text flat_refusal_text text all_refusals refusal e
 
 pub reply_of-read : (text : List ℕ) (reply : Reply) → reply_of text ≡ Some reply → IsReplyText text reply
 unfolding reply_of
@@ -296,8 +298,8 @@ unfolding entry_head
 entry_head-text cpu k text small_cpu small_k =
     let first = ap (cut 32) (three_parts (decimal cpu) (decimal k) text) ∙ cut-append 32 (decimal cpu) (decimal k ++ (32 ∷ text)) (IsFree-decimal 32 (omega arith) cpu) in
     then_some _ _ (decimal cpu, decimal k ++ (32 ∷ text)) _ first
-    (then_some _ _ cpu _ (number_of-decimal cpu small_cpu)
-    (then_some _ _ (decimal k, text) _ (cut-append 32 (decimal k) text (IsFree-decimal 32 (omega arith) k)) (then_some _ _ k _ (number_of-decimal k small_k) refl)))
+    (then_some _ _ cpu _ (numeral_of-decimal cpu small_cpu)
+    (then_some _ _ (decimal k, text) _ (cut-append 32 (decimal k) text (IsFree-decimal 32 (omega arith) k)) (then_some _ _ k _ (numeral_of-decimal k small_k) refl)))
 
 pub record IsHead (line : List ℕ) (cpu k : ℕ) (text : List ℕ) : Type 0 where
   pub whole : line ≡ decimal cpu ++ codes " " ++ decimal k ++ codes " " ++ text
@@ -308,13 +310,13 @@ pub entry_head-read : (line : List ℕ) (head : ℕ × (ℕ × List ℕ)) → en
 unfolding entry_head
 entry_head-read line head e =
     let first = some_then (cut 32 line) _ head e in
-    let cpu = some_then (number_of first.0.0) _ head first.2 in
+    let cpu = some_then (numeral_of first.0.0) _ head first.2 in
     let second = some_then (cut 32 first.0.1) _ head cpu.2 in
-    let k = some_then (number_of second.0.0) _ head second.2 in
+    let k = some_then (numeral_of second.0.0) _ head second.2 in
     let one = cut-parts 32 line first.0.0 first.0.1 first.1 in
     let two = cut-parts 32 first.0.1 second.0.0 second.0.1 second.1 in
-    let a = number_of-read first.0.0 cpu.0 cpu.1 in
-    let b = number_of-read second.0.0 k.0 k.1 in
+    let a = numeral_of-read first.0.0 cpu.0 cpu.1 in
+    let b = numeral_of-read second.0.0 k.0 k.1 in
     let text : line ≡ decimal cpu.0 ++ (32 ∷ (decimal k.0 ++ (32 ∷ second.0.1))) =
     one.whole ∙ ap (λ t. t ++ (32 ∷ first.0.1)) a.0 ∙ ap (λ t. decimal cpu.0 ++ (32 ∷ t)) (two.whole ∙ ap (λ t. t ++ (32 ∷ second.0.1)) b.0) in
     let made : IsHead line cpu.0 k.0 second.0.1 = record { whole = text ∙ sym (three_parts (decimal cpu.0) (decimal k.0) second.0.1); small_cpu = a.1; small_k = b.1 } in

@@ -4,7 +4,7 @@ pub mod EntryLaws
 pub mod AnswerLaws
 pub mod Walks
 pub mod Plans
-pub mod Planned
+pub mod Distinct
 pub mod OneMore
 pub mod AcceptedLaws
 pub mod LegalLaws

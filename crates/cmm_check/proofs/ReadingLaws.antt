@@ -1,5 +1,6 @@
 -- What is read is what was written: a cut, numbers, bytes and names, both ways.
-use Rattle.std.proofs.Common.{◌≡◌, ◌∙◌, ℕ, zero, suc, ◌+◌, ◌^◌, ◌<◌, List, [], ◌∷◌, ◌++◌, Bool, true, false, cond, Option, Some, None, inl, inr, length, get_or, take, drop, refl, sym, ap, subst, arith, length-append}
+use Rattle.std.proofs.Common.{◌≡◌, ◌∙◌, ℕ, zero, suc, ◌+◌, ◌^◌, ◌<◌, List, [], ◌∷◌, ◌++◌, Bool, true, false, cond, Option, Some, None, inl, inr, length, get_or, take}
+use Rattle.std.proofs.Common.{drop, refl, sym, ap, subst, arith, length-append}
 use Rattle.std.specs.Prelude.{◌&&◌, nat_eq, nat_lt, decimal, position}
 use Rattle.std.specs.List.{AllByRecursion, position_or_len, before_first, after_first}
 use Rattle.std.specs.Str.{bytes_eq, all_ascii_digits}
@@ -12,15 +13,15 @@ use Rattle.std.proofs.lemmas.Slice.Eq.{bytes_eq-Decides}
 use Rattle.std.proofs.lemmas.Str.Parse.{numerals_by_value, tells_all_ascii_digits}
 use Rattle.std.proofs.lemmas.Fmt.{digits_decimal, digits_value-decimal, decimal-digits_value, decimal_nonempty, first_decimal, decimal_digit}
 use Rattle.cmm_report.proofs.Splits.{IsFree, IsFree-decimal}
-use Rattle.cmm_check.specs.Reading.{◌>>=◌, given, parts_at, cut, behind, has_no_leading_zero, long_of, number_of, two_numbers, three_numbers, first_named}
+use Rattle.cmm_check.specs.Reading.{if_read, given, parts_at, cut, without_front, has_no_leading_zero, long_of, numeral_of, two_numbers, three_numbers, first_named}
 use Rattle.cmm_check.proofs.Digits.{long_of-is}
 
 -- ---- steps
 
-pub then_some : {A B : Type 0} (o : Option A) (f : A → Option B) (x : A) (y : Option B) → o ≡ Some x → f x ≡ y → (o >>= f) ≡ y
+pub then_some : {A B : Type 0} (o : Option A) (f : A → Option B) (x : A) (y : Option B) → o ≡ Some x → f x ≡ y → if_read o f ≡ y
 then_some o f x y e h = rw e h
 
-pub some_then : {A B : Type 0} (o : Option A) (f : A → Option B) (y : B) → (o >>= f) ≡ Some y → (x : A) × (o ≡ Some x) × (f x ≡ Some y)
+pub some_then : {A B : Type 0} (o : Option A) (f : A → Option B) (y : B) → if_read o f ≡ Some y → (x : A) × (o ≡ Some x) × (f x ≡ Some y)
 some_then None f y h = cc h
 some_then (Some x) f y h = (x, refl, h)
 
@@ -133,16 +134,16 @@ cut-parts byte text front rest e =
 
 -- ---- first bytes
 
-pub behind-append : (front rest : List ℕ) → behind front (front ++ rest) ≡ Some rest
-unfolding behind
-behind-append front rest =
+pub without_front-append : (front rest : List ℕ) → without_front front (front ++ rest) ≡ Some rest
+unfolding without_front
+without_front-append front rest =
     let first : take (length front) (front ++ rest) ≡ front = take-append_seam front rest in
     let after : drop (length front) (front ++ rest) ≡ rest = drop-append_seam front rest in
     given_true (bytes_eq (take (length front) (front ++ rest)) front) (drop (length front) (front ++ rest)) (bytes_same _ _ first) ∙ ap Some after
 
-pub behind-is : (front text rest : List ℕ) → behind front text ≡ Some rest → text ≡ front ++ rest
-unfolding behind
-behind-is front text rest e =
+pub without_front-is : (front text rest : List ℕ) → without_front front text ≡ Some rest → text ≡ front ++ rest
+unfolding without_front
+without_front-is front text rest e =
     let holds = given_holds (bytes_eq (take (length front) text) front) (drop (length front) text) rest e in
     sym (take-append-drop (length front) text) ∙ ap (λ f. f ++ drop (length front) text) (same_bytes (take (length front) text) front holds.0) ∙ ap (λ r. front ++ r) holds.1
 
@@ -187,13 +188,13 @@ long_of-read word n e =
     let back = decimal-digits_value (numerals_by_value _ tells_all_ascii_digits) word front.1 (some_digit word front.0) (single word front.0) small in
     (sym back ∙ ap decimal holds.1, subst (λ m. m < 2 ^ 64) holds.1 small)
 
-pub number_of-decimal : (n : ℕ) → n < 2 ^ 32 → number_of (decimal n) ≡ Some n
-unfolding number_of
-number_of-decimal n small = then_some (long_of (decimal n)) (λ m. given (nat_lt m (2 ^ 32)) m) n _ (long_of-decimal n (omega arith)) (given_true (nat_lt n (2 ^ 32)) n (lt-ltb n (2 ^ 32) small))
+pub numeral_of-decimal : (n : ℕ) → n < 2 ^ 32 → numeral_of (decimal n) ≡ Some n
+unfolding numeral_of
+numeral_of-decimal n small = then_some (long_of (decimal n)) (λ m. given (nat_lt m (2 ^ 32)) m) n _ (long_of-decimal n (omega arith)) (given_true (nat_lt n (2 ^ 32)) n (lt-ltb n (2 ^ 32) small))
 
-pub number_of-read : (word : List ℕ) (n : ℕ) → number_of word ≡ Some n → (word ≡ decimal n) × (n < 2 ^ 32)
-unfolding number_of
-number_of-read word n e =
+pub numeral_of-read : (word : List ℕ) (n : ℕ) → numeral_of word ≡ Some n → (word ≡ decimal n) × (n < 2 ^ 32)
+unfolding numeral_of
+numeral_of-read word n e =
     let step = some_then (long_of word) (λ m. given (nat_lt m (2 ^ 32)) m) n e in
     let holds = given_holds (nat_lt step.0 (2 ^ 32)) step.0 n step.2 in
     let small : step.0 < 2 ^ 32 = ltb-true step.0 (2 ^ 32) holds.0 in
@@ -206,7 +207,7 @@ pub two_numbers-text : (a b : ℕ) → a < 2 ^ 32 → b < 2 ^ 32 → two_numbers
 unfolding two_numbers
 two_numbers-text a b sa sb =
     then_some _ _ (decimal a, decimal b) _ (cut-append 32 (decimal a) (decimal b) (free_number a))
-    (then_some _ _ a _ (number_of-decimal a sa) (then_some _ _ b _ (number_of-decimal b sb) refl))
+    (then_some _ _ a _ (numeral_of-decimal a sa) (then_some _ _ b _ (numeral_of-decimal b sb) refl))
 
 pub record AreTwo (text : List ℕ) (a b : ℕ) : Type 0 where
   pub text_of : text ≡ decimal a ++ (32 ∷ decimal b)
@@ -217,11 +218,11 @@ pub two_numbers-read : (text : List ℕ) (a b : ℕ) → two_numbers text ≡ So
 unfolding two_numbers
 two_numbers-read text a b e =
     let parts = some_then (cut 32 text) _ (a, b) e in
-    let first = some_then (number_of parts.0.0) _ (a, b) parts.2 in
-    let second = some_then (number_of parts.0.1) _ (a, b) first.2 in
+    let first = some_then (numeral_of parts.0.0) _ (a, b) parts.2 in
+    let second = some_then (numeral_of parts.0.1) _ (a, b) first.2 in
     let whole = cut-parts 32 text parts.0.0 parts.0.1 parts.1 in
-    let one = number_of-read parts.0.0 first.0 first.1 in
-    let two = number_of-read parts.0.1 second.0 second.1 in
+    let one = numeral_of-read parts.0.0 first.0 first.1 in
+    let two = numeral_of-read parts.0.1 second.0 second.1 in
     let pair = some_same _ _ second.2 in
     let x : first.0 ≡ a = ap (λ (p : ℕ × ℕ). p.0) pair in
     let y : second.0 ≡ b = ap (λ (p : ℕ × ℕ). p.1) pair in
@@ -233,7 +234,7 @@ pub three_numbers-text : (a b c : ℕ) → a < 2 ^ 32 → b < 2 ^ 32 → c < 2 ^
 unfolding three_numbers
 three_numbers-text a b c sa sb sc =
     then_some _ _ (decimal a, decimal b ++ (32 ∷ decimal c)) _ (cut-append 32 (decimal a) (decimal b ++ (32 ∷ decimal c)) (free_number a))
-    (then_some _ _ a _ (number_of-decimal a sa) (then_some _ _ (b, c) _ (two_numbers-text b c sb sc) refl))
+    (then_some _ _ a _ (numeral_of-decimal a sa) (then_some _ _ (b, c) _ (two_numbers-text b c sb sc) refl))
 
 pub record AreThree (text : List ℕ) (a b c : ℕ) : Type 0 where
   pub text_of : text ≡ decimal a ++ (32 ∷ (decimal b ++ (32 ∷ decimal c)))
@@ -245,10 +246,10 @@ pub three_numbers-read : (text : List ℕ) (a b c : ℕ) → three_numbers text 
 unfolding three_numbers
 three_numbers-read text a b c e =
     let parts = some_then (cut 32 text) _ (a, (b, c)) e in
-    let first = some_then (number_of parts.0.0) _ (a, (b, c)) parts.2 in
+    let first = some_then (numeral_of parts.0.0) _ (a, (b, c)) parts.2 in
     let others = some_then (two_numbers parts.0.1) _ (a, (b, c)) first.2 in
     let whole = cut-parts 32 text parts.0.0 parts.0.1 parts.1 in
-    let one = number_of-read parts.0.0 first.0 first.1 in
+    let one = numeral_of-read parts.0.0 first.0 first.1 in
     let all = some_same _ _ others.2 in
     let x : first.0 ≡ a = ap (λ (p : ℕ × (ℕ × ℕ)). p.0) all in
     let rest = ap (λ (p : ℕ × (ℕ × ℕ)). p.1) all in

@@ -7,15 +7,15 @@ use Rattle.cmm_flat.specs.Legal.{Legal, Complete}
 use Rattle.cmm_flat.specs.Failures.{disk_failures, paging_failures}
 use Rattle.cmm_report.specs.Report.{GuestReport, report_of}
 use Rattle.cmm_check.specs.Answers.{AnswerFits}
-use Rattle.cmm_check.specs.Journal.{planned_failures}
+use Rattle.cmm_io.specs.Counted.{distinct}
 
 -- the journal is legal, and complete in a run; at most as many commands failed as calls are planned to; and at most as
 -- many faults were handled as pages discarded
 pub record IsLegalGuest (run : Bool) (plan : GuestPlan) (guest : GuestReport) : Type 0 where
   pub legal : Legal plan guest.journal
   pub complete : run ≡ true → Complete plan guest.journal
-  pub by_disk : disk_failures guest.journal ≤ planned_failures plan.disk_fail
-  pub by_pager : paging_failures guest.journal ≤ planned_failures plan.pager_fail
+  pub by_disk : disk_failures guest.journal ≤ distinct plan.disk_fail
+  pub by_pager : paging_failures guest.journal ≤ distinct plan.pager_fail
   pub faults : guest.faults ≤ guest.discards
   pub counted : guest.discards < 2 ^ 64
 

@@ -10,7 +10,7 @@ use Rattle.cmm_types.specs.declared.event.Answer.{Answer}
 use Rattle.cmm_types.specs.declared.event.Answer.TheVariants.{Turn as TurnAnswer, Alone as AloneAnswer, HostDone, HostRefused, HostPaging, Reclaimed}
 use Rattle.cmm_types.specs.declared.page.Refused.TheVariants.{Stable, Changed, Absent, Volatile, Counted}
 use Rattle.cmm_report.specs.Texts.{answer_text}
-use Rattle.cmm_check.specs.Reading.{◌>>=◌, cut, behind, number_of, two_numbers, three_numbers, first_named, given}
+use Rattle.cmm_check.specs.Reading.{if_read, cut, without_front, numeral_of, two_numbers, three_numbers, first_named, given}
 
 abbrev pub TurnFits : Turn → Type 0
 TurnFits Moved = Unit {0}
@@ -62,42 +62,42 @@ unfoldable pub plain_answer : List ℕ → Option Answer
 plain_answer text = first_named answer_text text plain_answers
 
 unfoldable pub waits_of : List ℕ → Option Answer
-waits_of text = do
-  numbers ← behind (codes "waits ") text
-  both ← two_numbers numbers
-  Some (TurnAnswer (Waits both.0 both.1))
+waits_of text =
+    if_read (without_front (codes "waits ") text) λ numbers.
+    if_read (two_numbers numbers) λ both.
+    Some (TurnAnswer (Waits both.0 both.1))
 
 unfoldable pub alone_finished_of : List ℕ → Option Answer
-alone_finished_of text = do
-  digits ← behind (codes "alone finished ") text
-  turns ← number_of digits
-  Some (AloneAnswer (AloneFinished turns))
+alone_finished_of text =
+    if_read (without_front (codes "alone finished ") text) λ digits.
+    if_read (numeral_of digits) λ turns.
+    Some (AloneAnswer (AloneFinished turns))
 
 unfoldable pub alone_waits_of : List ℕ → Option Answer
-alone_waits_of text = do
-  numbers ← behind (codes "alone waits ") text
-  three ← three_numbers numbers
-  Some (AloneAnswer (AloneWaits three.0 three.1.0 three.1.1))
+alone_waits_of text =
+    if_read (without_front (codes "alone waits ") text) λ numbers.
+    if_read (three_numbers numbers) λ three.
+    Some (AloneAnswer (AloneWaits three.0 three.1.0 three.1.1))
 
 unfoldable pub reclaimed_count : List ℕ → Option Answer
-reclaimed_count digits = do
-  count ← number_of digits
-  Some (Reclaimed count false)
+reclaimed_count digits =
+    if_read (numeral_of digits) λ count.
+    Some (Reclaimed count false)
 
 -- the number of frames, and the words behind it
 unfoldable pub reclaimed_paging : List ℕ → List ℕ → Option Answer
-reclaimed_paging digits words = do
-  count ← number_of digits
-  given (bytes_eq words (codes "failed paging")) (Reclaimed count true)
+reclaimed_paging digits words =
+    if_read (numeral_of digits) λ count.
+    given (bytes_eq words (codes "failed paging")) (Reclaimed count true)
 
 abbrev pub reclaimed_with : Option (List ℕ × List ℕ) → List ℕ → Option Answer
 reclaimed_with None text = reclaimed_count text
 reclaimed_with (Some parts) text = reclaimed_paging parts.0 parts.1
 
 unfoldable pub reclaimed_of : List ℕ → Option Answer
-reclaimed_of text = do
-  rest ← behind (codes "reclaimed ") text
-  reclaimed_with (cut 32 rest) rest
+reclaimed_of text =
+    if_read (without_front (codes "reclaimed ") text) λ rest.
+    reclaimed_with (cut 32 rest) rest
 
 -- the answer that a text says; nothing for `again`
 unfoldable pub answer_of : List ℕ → Option Answer
@@ -106,14 +106,14 @@ answer_of text =
 
 -- the number of an event, and the text of its answer
 unfoldable pub event_head : List ℕ → Option (ℕ × List ℕ)
-event_head line = do
-  rest ← behind (codes "event ") line
-  parts ← cut 32 rest
-  number ← number_of parts.0
-  Some (number, parts.1)
+event_head line =
+    if_read (without_front (codes "event ") line) λ rest.
+    if_read (cut 32 rest) λ parts.
+    if_read (numeral_of parts.0) λ number.
+    Some (number, parts.1)
 
-unfoldable pub event_of : List ℕ → Option (ℕ × Answer)
-event_of line = do
-  head ← event_head line
-  answer ← answer_of head.1
-  Some (head.0, answer)
+unfoldable pub numbered_answer : List ℕ → Option (ℕ × Answer)
+numbered_answer line =
+    if_read (event_head line) λ head.
+    if_read (answer_of head.1) λ answer.
+    Some (head.0, answer)

@@ -10,7 +10,7 @@ use Rattle.cmm_types.specs.declared.command.Reply.{Reply}
 use Rattle.cmm_types.specs.declared.command.Reply.TheVariants.{Done, Bytes, Refused, Fail}
 use Rattle.cmm_report.specs.Texts.{flat_refusal_text, reply_text}
 use Rattle.cmm_report.specs.JournalLines.{CauseFits}
-use Rattle.cmm_check.specs.Reading.{◌>>=◌, cut, behind, number_of, two_numbers, bytes_of, first_named}
+use Rattle.cmm_check.specs.Reading.{if_read, cut, without_front, numeral_of, two_numbers, hex_bytes, first_named}
 
 -- what a report may say of a reply: 1 to 64 bytes, and numbers below 2 to the 32nd
 abbrev pub IsReported : Reply → Type 0
@@ -26,17 +26,17 @@ pub record IsEntryLine (line : List ℕ) (cpu k : ℕ) (reply : Reply) : Type 0 
   pub command : k < 2 ^ 32
   pub replied : IsReported reply
 
-abbrev pub refusals : List FlatRefusal
-refusals = NoMapping ∷ AlreadyMapped ∷ OutOfRange ∷ ReadOnly ∷ Pinned ∷ NotPinned ∷ TooManyMaps ∷ []
+abbrev pub all_refusals : List FlatRefusal
+all_refusals = NoMapping ∷ AlreadyMapped ∷ OutOfRange ∷ ReadOnly ∷ Pinned ∷ NotPinned ∷ TooManyMaps ∷ []
 
 unfoldable pub refusal_named : List ℕ → Option FlatRefusal
-refusal_named text = first_named flat_refusal_text text refusals
+refusal_named text = first_named flat_refusal_text text all_refusals
 
 unfoldable pub no_page_of : List ℕ → Option Cause
-no_page_of text = do
-  numbers ← behind (codes "fail nopage ") text
-  counts ← two_numbers numbers
-  Some (NoPage counts.0 counts.1)
+no_page_of text =
+    if_read (without_front (codes "fail nopage ") text) λ numbers.
+    if_read (two_numbers numbers) λ counts.
+    Some (NoPage counts.0 counts.1)
 
 -- the cause of a failure
 unfoldable pub cause_of : List ℕ → Option Cause
@@ -46,10 +46,10 @@ cause_of text =
     else no_page_of text
 
 unfoldable pub bytes_reply_of : List ℕ → Option Reply
-bytes_reply_of text = do
-  digits ← behind (codes "ok ") text
-  bytes ← bytes_of digits
-  Some (Bytes bytes)
+bytes_reply_of text =
+    if_read (without_front (codes "ok ") text) λ digits.
+    if_read (hex_bytes digits) λ bytes.
+    Some (Bytes bytes)
 
 -- the first of three readings that gives something
 abbrev pub first_reply : Option Cause → Option FlatRefusal → Option Reply → Option Reply
@@ -62,15 +62,15 @@ reply_of text = if bytes_eq text (codes "ok") then Some Done else first_reply (c
 
 -- the processor and the number, and the text of the reply
 unfoldable pub entry_head : List ℕ → Option (ℕ × (ℕ × List ℕ))
-entry_head line = do
-  first ← cut 32 line
-  cpu ← number_of first.0
-  second ← cut 32 first.1
-  k ← number_of second.0
-  Some (cpu, (k, second.1))
+entry_head line =
+    if_read (cut 32 line) λ first.
+    if_read (numeral_of first.0) λ cpu.
+    if_read (cut 32 first.1) λ second.
+    if_read (numeral_of second.0) λ k.
+    Some (cpu, (k, second.1))
 
 unfoldable pub entry_of : List ℕ → Option (ℕ × (ℕ × Reply))
-entry_of line = do
-  head ← entry_head line
-  reply ← reply_of head.1.1
-  Some (head.0, (head.1.0, reply))
+entry_of line =
+    if_read (entry_head line) λ head.
+    if_read (reply_of head.1.1) λ reply.
+    Some (head.0, (head.1.0, reply))

@@ -3,7 +3,7 @@ use Rattle.std.specs.Prelude.{ℕ, ◌==◌, ◌&&◌, ◌||◌, Bool, true, fal
 use Rattle.std.specs.Str.{bytes_eq}
 use Rattle.cmm_types.specs.declared.plan.GuestPlan.{GuestPlan}
 use Rattle.cmm_flat.specs.Legal.{all_commands}
-use Rattle.cmm_check.specs.Reading.{◌>>=◌, given, cut, behind, long_of, number_of}
+use Rattle.cmm_check.specs.Reading.{if_read, given, cut, without_front, long_of, numeral_of}
 use Rattle.cmm_check.specs.Answers.{answer_of, event_head}
 
 -- whether a report is one of a run, by its first line
@@ -19,36 +19,36 @@ is_answer text = bytes_eq text (codes "again") || is_some (answer_of text)
 
 -- the line of the event with this number
 unfoldable pub event_fits : ℕ → List ℕ → Option ℕ
-event_fits number line = do
-  head ← event_head line
-  given ((head.0 == number) && is_answer head.1) number
+event_fits number line =
+    if_read (event_head line) λ head.
+    given ((head.0 == number) && is_answer head.1) number
 
 -- the discards and the faults
 unfoldable pub counts_of : List ℕ → Option (ℕ × ℕ)
-counts_of text = do
-  digits ← behind (codes "discards ") text
-  parts ← cut 32 digits
-  discards ← long_of parts.0
-  last ← behind (codes "faults ") parts.1
-  faults ← long_of last
-  Some (discards, faults)
+counts_of text =
+    if_read (without_front (codes "discards ") text) λ digits.
+    if_read (cut 32 digits) λ parts.
+    if_read (long_of parts.0) λ discards.
+    if_read (without_front (codes "faults ") parts.1) λ last.
+    if_read (long_of last) λ faults.
+    Some (discards, faults)
 
 -- the number of entries, and then the counts
-unfoldable pub entries_of : List ℕ → Option (ℕ × (ℕ × ℕ))
-entries_of text = do
-  digits ← behind (codes "entries ") text
-  parts ← cut 32 digits
-  entries ← number_of parts.0
-  counts ← counts_of parts.1
-  Some (entries, counts)
+unfoldable pub guest_counts : List ℕ → Option (ℕ × (ℕ × ℕ))
+guest_counts text =
+    if_read (without_front (codes "entries ") text) λ digits.
+    if_read (cut 32 digits) λ parts.
+    if_read (numeral_of parts.0) λ entries.
+    if_read (counts_of parts.1) λ counts.
+    Some (entries, counts)
 
 unfoldable pub guest_head : List ℕ → Option (ℕ × (ℕ × (ℕ × ℕ)))
-guest_head line = do
-  digits ← behind (codes "guest ") line
-  parts ← cut 32 digits
-  guest ← number_of parts.0
-  rest ← entries_of parts.1
-  Some (guest, rest)
+guest_head line =
+    if_read (without_front (codes "guest ") line) λ digits.
+    if_read (cut 32 digits) λ parts.
+    if_read (numeral_of parts.0) λ guest.
+    if_read (guest_counts parts.1) λ rest.
+    Some (guest, rest)
 
 -- as many entries as commands in a run, and no more in a replay
 abbrev pub are_entries : Bool → GuestPlan → ℕ → Bool
@@ -56,9 +56,9 @@ are_entries run plan entries = if run then entries == all_commands plan else nat
 
 -- how many entries follow the line of the guest with this number
 unfoldable pub entries_told : Bool → ℕ → GuestPlan → List ℕ → Option ℕ
-entries_told run number plan line = do
-  head ← guest_head line
-  given ((head.0 == number) && are_entries run plan head.1.0 && nat_le head.1.1.1 head.1.1.0) head.1.0
+entries_told run number plan line =
+    if_read (guest_head line) λ head.
+    given ((head.0 == number) && are_entries run plan head.1.0 && nat_le head.1.1.1 head.1.1.0) head.1.0
 
 -- the last line
 unfoldable pub end_of : List ℕ → Option (List ℕ)

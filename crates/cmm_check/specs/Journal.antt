@@ -1,6 +1,5 @@
 -- Which line fits where a guest's journal is, and where it leads.
-use Rattle.std.specs.Prelude.{ℕ, ◌+◌, ◌-◌, ◌==◌, ◌&&◌, ◌||◌, Bool, true, false, nat_lt, nat_le, if◌then◌else◌, List, [], ◌∷◌, Option, Some, None, is_none, sum_by, refl}
-use Rattle.std.specs.List.{list_any}
+use Rattle.std.specs.Prelude.{ℕ, ◌+◌, ◌-◌, ◌==◌, ◌&&◌, ◌||◌, Bool, true, false, nat_lt, nat_le, List, Option, Some, None, is_none, sum_by, refl}
 use Rattle.std.specs.Coded.{Coded, code_by, coded×, coded_list, coded_ℕ}
 use Rattle.std.specs.Str.{bytes_eq}
 use Rattle.cmm_types.specs.declared.plan.GuestPlan.{GuestPlan}
@@ -11,15 +10,16 @@ use Rattle.cmm_types.specs.declared.command.Cause.TheVariants.{Disk, Paging, NoP
 use Rattle.cmm_types.specs.declared.command.Reply.{Reply}
 use Rattle.cmm_types.specs.declared.command.Reply.TheVariants.{Done, Bytes, Refused, Fail}
 use Rattle.cmm_types.specs.declared.command.Entry.{Entry}
+use Rattle.cmm_io.specs.Counted.{distinct}
 use Rattle.cmm_flat.specs.State.{FlatState, coded_state}
 use Rattle.cmm_flat.specs.Flat.{refusal_of, flat_step}
 use Rattle.cmm_flat.specs.Legal.{Walk, Progress, start_of, progress_of, command_of, process_of, over_live, pinned_pages, anonymous_pages, after}
 use Rattle.cmm_report.specs.Texts.{reply_text}
-use Rattle.cmm_check.specs.Reading.{◌>>=◌, given}
+use Rattle.cmm_check.specs.Reading.{if_read, given}
 use Rattle.cmm_check.specs.Entries.{cause_of, entry_head}
 
 -- where the lines of a guest's journal have led, and how many more failures of its disk and of its pager may come
-pub record Seen : Type 0 where
+pub record LinesWalked : Type 0 where
   pub walk : Walk
   pub disk : ℕ
   pub paging : ℕ
@@ -27,21 +27,16 @@ pub record Seen : Type 0 where
 abbrev pub coded_progress : Coded Progress
 coded_progress = code_by (ℕ × ℕ) (coded× coded_ℕ coded_ℕ) (λ p. (p.next, p.ended)) (λ p. record { next = p.0; ended = p.1 }) (λ _. refl)
 
-abbrev pub coded_seen : Coded Seen
-coded_seen =
+abbrev pub coded_lines_walked : Coded LinesWalked
+coded_lines_walked =
     code_by (FlatState × (List Progress × (ℕ × ℕ))) (coded× coded_state (coded× (coded_list coded_progress) (coded× coded_ℕ coded_ℕ)))
     (λ s. (s.walk.flat, (s.walk.cpus, (s.disk, s.paging))))
     (λ p. record { walk = record { flat = p.0; cpus = p.1.0 }; disk = p.1.1.0; paging = p.1.1.1 })
     (λ _. refl)
 
--- how many calls are planned to fail: one for each different number
-abbrev pub planned_failures : List ℕ → ℕ
-planned_failures [] = 0
-planned_failures (n ∷ ns) = if list_any (λ m. m == n) ns then planned_failures ns else planned_failures ns + 1
-
 -- before the first line
-abbrev pub start_seen : GuestPlan → Seen
-start_seen plan = record { walk = start_of plan; disk = planned_failures plan.disk_fail; paging = planned_failures plan.pager_fail }
+abbrev pub no_lines_walked : GuestPlan → LinesWalked
+no_lines_walked plan = record { walk = start_of plan; disk = distinct plan.disk_fail; paging = distinct plan.pager_fail }
 
 -- a command that may fail
 abbrev pub can_fail : Op → Bool
@@ -77,29 +72,29 @@ has_no_page plan walk pinned unslotted =
     && (unslotted == 0 || nat_le (unslotted + plan.swap) (over_live anonymous_pages walk.flat + sum_by (λ cpu. cpu.ended) walk.cpus))
 
 -- a failure that may come here: by its command, and within what the plan lets fail
-abbrev pub may_fail : GuestPlan → Seen → ℕ → Op → Cause → Bool
-may_fail plan seen process op Disk = can_fail op && nat_lt 0 seen.disk
-may_fail plan seen process op Paging = can_fail op && nat_lt 0 seen.paging
-may_fail plan seen process op (NoPage pinned unslotted) =
-    can_need_page op && is_none (refusal_of seen.walk.flat process op) && has_no_page plan seen.walk pinned unslotted
+abbrev pub may_fail : GuestPlan → LinesWalked → ℕ → Op → Cause → Bool
+may_fail plan walked process op Disk = can_fail op && nat_lt 0 walked.disk
+may_fail plan walked process op Paging = can_fail op && nat_lt 0 walked.paging
+may_fail plan walked process op (NoPage pinned unslotted) =
+    can_need_page op && is_none (refusal_of walked.walk.flat process op) && has_no_page plan walked.walk pinned unslotted
 
 -- the process of a processor and its command of this number, where that is the processor's next
 unfoldable pub entry_due : GuestPlan → Walk → ℕ → ℕ → Option Op
-entry_due plan walk cpu k = do
-  op ← command_of plan cpu k
-  given ((progress_of walk cpu).next == k) op
+entry_due plan walk cpu k =
+    if_read (command_of plan cpu k) λ op.
+    given ((progress_of walk cpu).next == k) op
 
 -- the flat machine's reply, where this is its text
 abbrev pub flat_reply : Walk → ℕ → Op → List ℕ → Option Reply
 flat_reply walk process op text = let reply = (flat_step walk.flat process op).1 in given (bytes_eq text (reply_text reply)) reply
 
-abbrev pub reply_with : GuestPlan → Seen → ℕ → Op → List ℕ → Option Cause → Option Reply
-reply_with plan seen process op text (Some cause) = given (may_fail plan seen process op cause) (Fail cause)
-reply_with plan seen process op text None = flat_reply seen.walk process op text
+abbrev pub reply_with : GuestPlan → LinesWalked → ℕ → Op → List ℕ → Option Cause → Option Reply
+reply_with plan walked process op text (Some cause) = given (may_fail plan walked process op cause) (Fail cause)
+reply_with plan walked process op text None = flat_reply walked.walk process op text
 
 -- the reply that a text says, where it may come here
-abbrev pub reply_due : GuestPlan → Seen → ℕ → Op → List ℕ → Option Reply
-reply_due plan seen process op text = reply_with plan seen process op text (cause_of text)
+abbrev pub reply_due : GuestPlan → LinesWalked → ℕ → Op → List ℕ → Option Reply
+reply_due plan walked process op text = reply_with plan walked process op text (cause_of text)
 
 -- how many more failures of the disk may come after a reply
 abbrev pub disk_left : ℕ → Reply → ℕ
@@ -120,17 +115,17 @@ paging_left n (Fail Paging) = n - 1
 paging_left n (Fail (NoPage pinned unslotted)) = n
 
 -- where an entry leads
-abbrev pub after_entry : GuestPlan → Seen → Entry → Seen
-after_entry plan seen entry = record { walk = after plan seen.walk entry; disk = disk_left seen.disk entry.reply; paging = paging_left seen.paging entry.reply }
+abbrev pub after_entry : GuestPlan → LinesWalked → Entry → LinesWalked
+after_entry plan walked entry = record { walk = after plan walked.walk entry; disk = disk_left walked.disk entry.reply; paging = paging_left walked.paging entry.reply }
 
-abbrev pub entry_at : ℕ → ℕ → Op → Reply → Entry
-entry_at cpu k op reply = record { cpu = cpu; k = k; op = op; reply = reply }
+abbrev pub journal_entry : ℕ → ℕ → Op → Reply → Entry
+journal_entry cpu k op reply = record { cpu = cpu; k = k; op = op; reply = reply }
 
 -- where the flat machine's reply leads, where this is its text
-abbrev pub replied : GuestPlan → Seen → ℕ → ℕ → Op → List ℕ → Option Seen
-replied plan seen cpu k op text = do
-  reply ← flat_reply seen.walk (process_of plan cpu) op text
-  Some (after_entry plan seen (entry_at cpu k op reply))
+abbrev pub replied : GuestPlan → LinesWalked → ℕ → ℕ → Op → List ℕ → Option LinesWalked
+replied plan walked cpu k op text =
+    if_read (flat_reply walked.walk (process_of plan cpu) op text) λ reply.
+    Some (after_entry plan walked (journal_entry cpu k op reply))
 
 -- the anonymous pages that an entry of this reply ends, where an unmap would end so many
 abbrev pub ended_by : Reply → ℕ → ℕ
@@ -140,9 +135,9 @@ ended_by (Refused refusal) pages = 0
 ended_by (Fail cause) pages = 0
 
 -- where the line of an entry leads; nothing where it doesn't fit
-unfoldable pub entry_fits : GuestPlan → Seen → List ℕ → Option Seen
-entry_fits plan seen line = do
-  head ← entry_head line
-  op ← entry_due plan seen.walk head.0 head.1.0
-  reply ← reply_due plan seen (process_of plan head.0) op head.1.1
-  Some (after_entry plan seen (entry_at head.0 head.1.0 op reply))
+unfoldable pub entry_fits : GuestPlan → LinesWalked → List ℕ → Option LinesWalked
+entry_fits plan walked line =
+    if_read (entry_head line) λ head.
+    if_read (entry_due plan walked.walk head.0 head.1.0) λ op.
+    if_read (reply_due plan walked (process_of plan head.0) op head.1.1) λ reply.
+    Some (after_entry plan walked (journal_entry head.0 head.1.0 op reply))

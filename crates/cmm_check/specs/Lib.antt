@@ -5,6 +5,7 @@ pub mod Split
 pub mod Heads
 pub mod Journal
 pub mod Verdict
-pub mod Leads
+pub mod VerdictLine
+pub mod WalkAnswers
 pub mod Accepted
 pub mod Judge

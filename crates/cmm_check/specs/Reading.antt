@@ -8,11 +8,10 @@ use Rattle.hex.specs.Hex.{decode_of}
 use Rattle.hex.specs.declared.error.FromHexError.{FromHexError}
 use Rattle.cmm_types.specs.declared.bytes.TheConstants.{MAX_BYTES}
 
--- the second step, where the first gave something
-infixl 10 ◌>>=◌
-abbrev pub ◌>>=◌ : {A B : Type 0} → Option A → (A → Option B) → Option B
-None >>= f = None
-(Some x) >>= f = f x
+-- the second step, where the first one read something
+abbrev pub if_read : {A B : Type 0} → Option A → (A → Option B) → Option B
+if_read None f = None
+if_read (Some x) f = f x
 
 -- something, where a test holds
 abbrev pub given : {A : Type 0} → Bool → A → Option A
@@ -23,13 +22,13 @@ parts_at text at = (take at text, drop (at + 1) text)
 
 -- the text before the first such byte, and the text behind it; nothing where there is no such byte
 unfoldable pub cut : ℕ → List ℕ → Option (List ℕ × List ℕ)
-cut byte text = do
-  at ← position (λ other. other == byte) text
-  Some (parts_at text at)
+cut byte text =
+    if_read (position (λ other. other == byte) text) λ at.
+    Some (parts_at text at)
 
 -- the text behind these first bytes; nothing where it begins otherwise
-unfoldable pub behind : List ℕ → List ℕ → Option (List ℕ)
-behind front text = given (bytes_eq (take (length front) text) front) (drop (length front) text)
+unfoldable pub without_front : List ℕ → List ℕ → Option (List ℕ)
+without_front front text = given (bytes_eq (take (length front) text) front) (drop (length front) text)
 
 -- one byte or more, of which the first is a `0` only where it is the only one
 abbrev pub has_no_leading_zero : List ℕ → Bool
@@ -42,34 +41,34 @@ unfoldable pub long_of : List ℕ → Option ℕ
 long_of word = given (has_no_leading_zero word && all_ascii_digits word && nat_lt (digits_value 10 word) (2 ^ 64)) (digits_value 10 word)
 
 -- the same below 2 to the 32nd
-unfoldable pub number_of : List ℕ → Option ℕ
-number_of word = do
-  number ← long_of word
-  given (nat_lt number (2 ^ 32)) number
+unfoldable pub numeral_of : List ℕ → Option ℕ
+numeral_of word =
+    if_read (long_of word) λ number.
+    given (nat_lt number (2 ^ 32)) number
 
 -- two numbers and the space between them
 unfoldable pub two_numbers : List ℕ → Option (ℕ × ℕ)
-two_numbers text = do
-  parts ← cut 32 text
-  first ← number_of parts.0
-  second ← number_of parts.1
-  Some (first, second)
+two_numbers text =
+    if_read (cut 32 text) λ parts.
+    if_read (numeral_of parts.0) λ first.
+    if_read (numeral_of parts.1) λ second.
+    Some (first, second)
 
 -- three numbers, parted by spaces
 unfoldable pub three_numbers : List ℕ → Option (ℕ × (ℕ × ℕ))
-three_numbers text = do
-  parts ← cut 32 text
-  first ← number_of parts.0
-  others ← two_numbers parts.1
-  Some (first, others)
+three_numbers text =
+    if_read (cut 32 text) λ parts.
+    if_read (numeral_of parts.0) λ first.
+    if_read (two_numbers parts.1) λ others.
+    Some (first, others)
 
 abbrev pub decoded : Result (List ℕ) FromHexError → Option (List ℕ)
 decoded (Ok bytes) = Some bytes
 decoded (Err e) = None
 
 -- 1 to 64 bytes in hexadecimal, in lower case
-unfoldable pub bytes_of : List ℕ → Option (List ℕ)
-bytes_of digits =
+unfoldable pub hex_bytes : List ℕ → Option (List ℕ)
+hex_bytes digits =
     if list_any is_ascii_uppercase digits then None
     else if nat_le 1 (length digits) && nat_le (length digits) (MAX_BYTES + MAX_BYTES) then decoded (decode_of digits)
     else None

@@ -12,6 +12,6 @@ HasMark input at = take 13 (drop at input) ≡ mark
 -- a report begins behind the first line feed that its first words follow
 pub record BeginsAt (input : List ℕ) (start : ℕ) : Type 0 where
   pub feed : ℕ
-  pub behind : start ≡ feed + 1
+  pub after_feed : start ≡ feed + 1
   pub marked : HasMark input feed
   pub first : (k : ℕ) → k < feed → HasMark input k → ⊥

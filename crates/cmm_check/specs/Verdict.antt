@@ -7,7 +7,7 @@ use Rattle.cmm_check.specs.declared.verdict.Verdict.{Verdict}
 use Rattle.cmm_check.specs.declared.verdict.Verdict.TheVariants.{Accepted, Rejected}
 use Rattle.cmm_check.specs.Reading.{cut}
 use Rattle.cmm_check.specs.Heads.{is_run_of, event_fits, entries_told, end_of}
-use Rattle.cmm_check.specs.Journal.{Seen, start_seen, entry_fits}
+use Rattle.cmm_check.specs.Journal.{LinesWalked, no_lines_walked, entry_fits}
 
 -- what comes of a part of a report: something and the text behind it, or the text from the first line on that doesn't fit
 abbrev pub Part : Type 0 → Type 0
@@ -31,13 +31,13 @@ events_fit number zero text = Ok text
 events_fit number (suc count) text = line_that (event_fits number) text >>= λ next. events_fit (number + 1) count next.1
 
 -- as many lines of entries
-abbrev pub entries_fit : GuestPlan → Seen → ℕ → List ℕ → Result (List ℕ) (List ℕ)
-entries_fit plan seen zero text = Ok text
-entries_fit plan seen (suc count) text = line_that (entry_fits plan seen) text >>= λ next. entries_fit plan next.0 count next.1
+abbrev pub entries_fit : GuestPlan → LinesWalked → ℕ → List ℕ → Result (List ℕ) (List ℕ)
+entries_fit plan walked zero text = Ok text
+entries_fit plan walked (suc count) text = line_that (entry_fits plan walked) text >>= λ next. entries_fit plan next.0 count next.1
 
 -- a guest's line and its entries
 unfoldable pub guest_fits : Bool → ℕ → GuestPlan → List ℕ → Result (List ℕ) (List ℕ)
-guest_fits run number plan text = line_that (entries_told run number plan) text >>= λ next. entries_fit plan (start_seen plan) next.0 next.1
+guest_fits run number plan text = line_that (entries_told run number plan) text >>= λ next. entries_fit plan (no_lines_walked plan) next.0 next.1
 
 abbrev pub guests_fit : Bool → ℕ → List GuestPlan → List ℕ → Result (List ℕ) (List ℕ)
 guests_fit run number [] text = Ok text

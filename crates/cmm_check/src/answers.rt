@@ -1,9 +1,9 @@
 ghost use Rattle.std.specs.Prelude.{◌≡◌, IfSome, IfNone, ℕ};
 ghost use Rattle.std.specs.Option.{option_map};
 ghost use Rattle.cmm_types.specs.declared.event.Answer.{Answer};
-ghost use Rattle.cmm_check.specs.Answers.{IsEventLine, IsAgain, plain_answer, waits_of, alone_finished_of, alone_waits_of, reclaimed_count, reclaimed_paging, reclaimed_of, answer_of, event_head, event_of};
+ghost use Rattle.cmm_check.specs.Answers.{IsEventLine, IsAgain, plain_answer, waits_of, alone_finished_of, alone_waits_of, reclaimed_count, reclaimed_paging, reclaimed_of, answer_of, event_head, numbered_answer};
 
-use crate::reading::{behind, cut, read_number, three_numbers, two_numbers};
+use crate::reading::{cut, read_number, three_numbers, two_numbers, without_front};
 use cmm_types::{Alone, Answer, Refused, Turn};
 
 #[tactic(auto, unfolding(crate::specs::Answers::plain_answer))]
@@ -41,7 +41,7 @@ fn plain_answer(text: &[u8]) -> Option<Answer>
 fn waits(text: &[u8]) -> Option<Answer>
     ensures { result ≡ waits_of text.now }
 {
-    let numbers = behind(text, b"waits ")?;
+    let numbers = without_front(text, b"waits ")?;
     let (page, owner) = two_numbers(numbers)?;
     Some(Answer::Turn(Turn::Waits { page, owner }))
 }
@@ -50,7 +50,7 @@ fn waits(text: &[u8]) -> Option<Answer>
 fn alone_finished(text: &[u8]) -> Option<Answer>
     ensures { result ≡ alone_finished_of text.now }
 {
-    let digits = behind(text, b"alone finished ")?;
+    let digits = without_front(text, b"alone finished ")?;
     let turns = read_number(digits)?;
     Some(Answer::Alone(Alone::Finished { turns }))
 }
@@ -59,7 +59,7 @@ fn alone_finished(text: &[u8]) -> Option<Answer>
 fn alone_waits(text: &[u8]) -> Option<Answer>
     ensures { result ≡ alone_waits_of text.now }
 {
-    let numbers = behind(text, b"alone waits ")?;
+    let numbers = without_front(text, b"alone waits ")?;
     let (turns, (page, owner)) = three_numbers(numbers)?;
     Some(Answer::Alone(Alone::Waits { turns, page, owner }))
 }
@@ -95,7 +95,7 @@ fn reclaimed_paging(digits: &[u8], words: &[u8]) -> Option<Answer>
 fn reclaimed(text: &[u8]) -> Option<Answer>
     ensures { result ≡ reclaimed_of text.now }
 {
-    let rest = behind(text, b"reclaimed ")?;
+    let rest = without_front(text, b"reclaimed ")?;
     match cut(rest, b' ') {
         Some((digits, words)) => reclaimed_paging(digits, words),
         None => reclaimed_count(rest),
@@ -127,15 +127,15 @@ pub fn answer_of(text: &[u8]) -> Option<Answer>
 pub fn event_head(line: &[u8]) -> Option<(u32, &[u8])>
     ensures { option_map (λ head. (head.0, head.1.now)) result ≡ event_head line.now }
 {
-    let rest = behind(line, b"event ")?;
+    let rest = without_front(line, b"event ")?;
     let (number, answer) = cut(rest, b' ')?;
     let number = read_number(number)?;
     Some((number, answer))
 }
 
-#[tactic(auto, unfolding(crate::specs::Answers::event_of))]
-fn event_of(line: &[u8]) -> Option<(u32, Answer)>
-    ensures { result ≡ event_of line.now }
+#[tactic(auto, unfolding(crate::specs::Answers::numbered_answer))]
+fn numbered_answer(line: &[u8]) -> Option<(u32, Answer)>
+    ensures { result ≡ numbered_answer line.now }
 {
     let (number, text) = event_head(line)?;
     let answer = answer_of(text)?;
@@ -149,5 +149,5 @@ pub fn read_answer(line: &[u8]) -> Option<(u32, Answer)>
     ensures told { IfSome result (λ event. ¬ (IsAgain event.1)) }
     ensures none { IfNone result ((number : ℕ) (answer : Answer) → IsEventLine line.now number answer → IsAgain answer) }
 {
-    event_of(line)
+    numbered_answer(line)
 }

@@ -4,7 +4,7 @@ ghost use Rattle.cmm_types.specs.declared.command.Reply.{Reply};
 ghost use Rattle.cmm_types.specs.declared.command.Reply.TheVariants.{Bytes};
 ghost use Rattle.cmm_check.specs.Entries.{IsEntryLine, refusal_named, no_page_of, cause_of, bytes_reply_of, reply_of, entry_head, entry_of};
 
-use crate::reading::{behind, cut, read_bytes, read_number, two_numbers};
+use crate::reading::{cut, read_bytes, read_number, two_numbers, without_front};
 use cmm_types::{Cause, FlatRefusal, Reply};
 
 #[tactic(auto, unfolding(crate::specs::Entries::refusal_named))]
@@ -34,7 +34,7 @@ fn refusal_named(text: &[u8]) -> Option<FlatRefusal>
 fn no_page(text: &[u8]) -> Option<Cause>
     ensures { result ≡ no_page_of text.now }
 {
-    let numbers = behind(text, b"fail nopage ")?;
+    let numbers = without_front(text, b"fail nopage ")?;
     let (pinned, unslotted) = two_numbers(numbers)?;
     Some(Cause::NoPage { pinned, unslotted })
 }
@@ -57,7 +57,7 @@ pub fn read_cause(text: &[u8]) -> Option<Cause>
 fn bytes_reply(text: &[u8]) -> Option<Reply>
     ensures { result ≡ bytes_reply_of text.now }
 {
-    let digits = behind(text, b"ok ")?;
+    let digits = without_front(text, b"ok ")?;
     let bytes = read_bytes(digits)?;
     Some(Reply::Bytes(bytes))
 }

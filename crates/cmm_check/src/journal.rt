@@ -5,8 +5,9 @@ ghost use Rattle.cmm_types.specs.declared.plan.TheConstants.{MAX_FAILS};
 ghost use Rattle.cmm_types.specs.InRange.{GuestInRange, OpInRange};
 ghost use Rattle.cmm_flat.specs.Legal.{Progress, at_start, progress_of, command_of, process_of, over_live, anonymous_pages};
 ghost use Rattle.cmm_check.specs.Reading.{given};
-ghost use Rattle.cmm_check.specs.Journal.{Seen, planned_failures, start_seen, can_fail, can_need_page, has_no_page, may_fail, disk_left, paging_left, entry_due, entry_at, after_entry, ended_by, replied, entry_fits};
-ghost use Rattle.cmm_check.specs.Leads.{Enters};
+ghost use Rattle.cmm_io.specs.Counted.{distinct};
+ghost use Rattle.cmm_check.specs.Journal.{LinesWalked, no_lines_walked, can_fail, can_need_page, has_no_page, may_fail, disk_left, paging_left, entry_due, journal_entry, after_entry, ended_by, replied, entry_fits};
+ghost use Rattle.cmm_check.specs.WalkAnswers.{TakesLine};
 
 use crate::NoMemory;
 use crate::entries::{read_cause, read_head};
@@ -45,25 +46,25 @@ pub struct Journal {
 }
 
 impl Model for Journal {
-    ghost use Rattle.cmm_check.specs.Journal.{Seen, coded_seen};
+    ghost use Rattle.cmm_check.specs.Journal.{LinesWalked, coded_lines_walked};
 
-    ghost Value = { Seen };
+    ghost Value = { LinesWalked };
 
-    ghost coded = { coded_seen };
+    ghost coded = { coded_lines_walked };
 
     ghost view = { λ j. record { walk = record { flat = j.flat; cpus = j.cpus.items }; disk = j.disk; paging = j.paging } };
 }
 
-/// How many calls are planned to fail: one for each different number.
-fn planned_failures(numbers: &[u32]) -> u32
+/// How many different numbers these are.
+fn distinct(numbers: &[u32]) -> u32
     requires { length numbers.now ≤ MAX_FAILS }
-    ensures value { result ≡ planned_failures numbers.now }
+    ensures value { result ≡ distinct numbers.now }
     ensures few { result ≤ length numbers.now }
 {
     match numbers {
         [] => 0,
         [number, rest @ ..] => {
-            let others = planned_failures(rest);
+            let others = distinct(rest);
             if rest.contains(number) {
                 others
             } else {
@@ -136,15 +137,15 @@ impl Journal {
     /// A guest's journal before its first line.
     pub fn open(alloc: Global, plan: &GuestPlan) -> Result<Journal, NoMemory>
         requires { GuestInRange plan.now }
-        ensures { IfOk result (λ journal. journal ≡ start_seen plan.now) }
+        ensures { IfOk result (λ journal. journal ≡ no_lines_walked plan.now) }
     {
         let flat = Flat::open(alloc, plan.files.as_slice())?;
         let cpus = at_start(alloc, plan.cpus.as_slice())?;
         Ok(Journal {
             flat,
             cpus,
-            disk: planned_failures(plan.disk_fail.as_slice()),
-            paging: planned_failures(plan.pager_fail.as_slice()),
+            disk: distinct(plan.disk_fail.as_slice()),
+            paging: distinct(plan.pager_fail.as_slice()),
         })
     }
 
@@ -234,7 +235,7 @@ impl Journal {
         requires there { cpu < length self.old.walk.cpus }
         requires next { (progress_of self.old.walk cpu).next ≡ k }
         requires few { k + 1 < 2 ^ 32 }
-        ensures fits { Enters (given (may_fail plan.now self.old (process_of plan.now cpu) op.now cause) (after_entry plan.now self.old (entry_at cpu k op.now (Fail cause)))) result self.new }
+        ensures fits { TakesLine (given (may_fail plan.now self.old (process_of plan.now cpu) op.now cause) (after_entry plan.now self.old (journal_entry cpu k op.now (Fail cause)))) result self.new }
         ensures same { length self.new.walk.cpus ≡ length self.old.walk.cpus }
     {
         if !self.may_fail(plan, process_of(plan, cpu), op, cause) {
@@ -260,7 +261,7 @@ impl Journal {
         requires there { cpu < length self.old.walk.cpus }
         requires next { (progress_of self.old.walk cpu).next ≡ k }
         requires few { k + 1 < 2 ^ 32 }
-        ensures fits { IfOk result (λ fits. Enters (replied plan.now self.old cpu k op.now text.now) fits self.new) }
+        ensures fits { IfOk result (λ fits. TakesLine (replied plan.now self.old cpu k op.now text.now) fits self.new) }
         ensures same { length self.new.walk.cpus ≡ length self.old.walk.cpus }
     {
         let process = process_of(plan, cpu);
@@ -278,7 +279,7 @@ impl Journal {
     pub fn enter(&mut self, alloc: Global, plan: &GuestPlan, line: &[u8]) -> Result<bool, NoMemory>
         requires range { GuestInRange plan.now }
         requires same { length self.old.walk.cpus ≡ length plan.now.cpus }
-        ensures fits { IfOk result (λ fits. Enters (entry_fits plan.now self.old line.now) fits self.new) }
+        ensures fits { IfOk result (λ fits. TakesLine (entry_fits plan.now self.old line.now) fits self.new) }
         ensures same { length self.new.walk.cpus ≡ length plan.now.cpus }
     {
         let Some((cpu, (k, text))) = read_head(line) else {

@@ -10,6 +10,7 @@ mod laws;
 mod lines;
 mod reading;
 mod verdict;
+mod writing;
 
 pub use answers::read_answer;
 pub use entries::read_entry;
@@ -18,6 +19,7 @@ pub use judging::{InputError, MAX_CHECKED, MAX_SCENARIO, judge};
 pub use laws::{accepted_reports_are_legal, legal_reports_are_accepted};
 pub use std::alloc::AllocError as NoMemory;
 pub use verdict::{Verdict, check};
+pub use writing::write_verdict;
 
 #[cfg(test)]
 mod tests;

@@ -2,13 +2,13 @@ ghost use Rattle.std.specs.Prelude.{◌≡◌};
 ghost use Rattle.std.specs.Option.{option_map};
 ghost use Rattle.cmm_types.specs.InRange.{GuestInRange};
 ghost use Rattle.cmm_flat.specs.Legal.{all_commands};
-ghost use Rattle.cmm_check.specs.Heads.{is_run_of, is_answer, event_fits, counts_of, entries_of, guest_head, are_entries, entries_told, end_of};
+ghost use Rattle.cmm_check.specs.Heads.{is_run_of, is_answer, event_fits, counts_of, guest_counts, guest_head, are_entries, entries_told, end_of};
 ghost use Rattle.cmm_check.specs.Verdict.{line_that, end_fits};
-ghost use Rattle.cmm_check.specs.Leads.{Leads};
+ghost use Rattle.cmm_check.specs.WalkAnswers.{GivesPart};
 
 use crate::NoMemory;
 use crate::answers::{answer_of, event_head};
-use crate::reading::{behind, cut, read_long, read_number};
+use crate::reading::{cut, read_long, read_number, without_front};
 use cmm_types::GuestPlan;
 
 /// Why a walk over the lines of a report ends before the report does.
@@ -35,7 +35,7 @@ fn is_run_of(line: &[u8]) -> Option<bool>
 /// The first line: whether the report is one of a run, and the text behind it.
 #[tactic(auto, unfolding(crate::specs::Verdict::line_that))]
 pub fn first_line(text: &[u8]) -> Result<(bool, &[u8]), Stop<'_>>
-    ensures { Leads (λ next. (next.0, next.1.now)) result (line_that is_run_of text.now) }
+    ensures { GivesPart (λ next. (next.0, next.1.now)) result (line_that is_run_of text.now) }
 {
     let Some((line, rest)) = cut(text, b'\n') else {
         return Err(Stop::Unfit(text));
@@ -68,7 +68,7 @@ fn event_number(number: u32, line: &[u8]) -> Option<u32>
 /// The line of the event with this number, and the text behind it.
 #[tactic(auto, unfolding(crate::specs::Verdict::line_that))]
 pub fn event_line(number: u32, text: &[u8]) -> Result<(u32, &[u8]), Stop<'_>>
-    ensures { Leads (λ next. (next.0, next.1.now)) result (line_that (event_fits number) text.now) }
+    ensures { GivesPart (λ next. (next.0, next.1.now)) result (line_that (event_fits number) text.now) }
 {
     let Some((line, rest)) = cut(text, b'\n') else {
         return Err(Stop::Unfit(text));
@@ -83,19 +83,19 @@ pub fn event_line(number: u32, text: &[u8]) -> Result<(u32, &[u8]), Stop<'_>>
 fn counts(text: &[u8]) -> Option<(u64, u64)>
     ensures { result ≡ counts_of text.now }
 {
-    let digits = behind(text, b"discards ")?;
+    let digits = without_front(text, b"discards ")?;
     let (discards, rest) = cut(digits, b' ')?;
     let discards = read_long(discards)?;
-    let faults = behind(rest, b"faults ")?;
+    let faults = without_front(rest, b"faults ")?;
     let faults = read_long(faults)?;
     Some((discards, faults))
 }
 
-#[tactic(auto, unfolding(crate::specs::Heads::entries_of))]
+#[tactic(auto, unfolding(crate::specs::Heads::guest_counts))]
 fn entries(text: &[u8]) -> Option<(u32, (u64, u64))>
-    ensures { result ≡ entries_of text.now }
+    ensures { result ≡ guest_counts text.now }
 {
-    let digits = behind(text, b"entries ")?;
+    let digits = without_front(text, b"entries ")?;
     let (entries, rest) = cut(digits, b' ')?;
     let entries = read_number(entries)?;
     let counts = counts(rest)?;
@@ -107,7 +107,7 @@ fn entries(text: &[u8]) -> Option<(u32, (u64, u64))>
 fn guest_head(line: &[u8]) -> Option<(u32, (u32, (u64, u64)))>
     ensures { result ≡ guest_head line.now }
 {
-    let digits = behind(line, b"guest ")?;
+    let digits = without_front(line, b"guest ")?;
     let (guest, rest) = cut(digits, b' ')?;
     let guest = read_number(guest)?;
     let rest = entries(rest)?;
@@ -159,7 +159,7 @@ pub fn guest_line<'a>(
     text: &'a [u8],
 ) -> Result<(u32, &'a [u8]), Stop<'a>>
     requires { GuestInRange plan.now }
-    ensures { Leads (λ next. (next.0, next.1.now)) result (line_that (entries_told run number plan.now) text.now) }
+    ensures { GivesPart (λ next. (next.0, next.1.now)) result (line_that (entries_told run number plan.now) text.now) }
 {
     let Some((line, rest)) = cut(text, b'\n') else {
         return Err(Stop::Unfit(text));
@@ -184,7 +184,7 @@ fn end_of(line: &[u8]) -> Option<&[u8]>
 /// The last line, and nothing behind it.
 #[tactic(auto, unfolding(crate::specs::Verdict::line_that, crate::specs::Verdict::end_fits))]
 pub fn end_line(text: &[u8]) -> Result<&[u8], Stop<'_>>
-    ensures { Leads (λ rest. rest.now) result (end_fits text.now) }
+    ensures { GivesPart (λ rest. rest.now) result (end_fits text.now) }
 {
     let Some((line, rest)) = cut(text, b'\n') else {
         return Err(Stop::Unfit(text));

@@ -2,7 +2,7 @@ ghost use Rattle.std.specs.Prelude.{◌≡◌, ◌+◌, ◌*◌, ◌^◌, ◌<�
 ghost use Rattle.std.specs.List.{list_any};
 ghost use Rattle.std.specs.Char.{is_ascii_uppercase};
 ghost use Rattle.std.specs.Option.{option_map, option_copied};
-ghost use Rattle.cmm_check.specs.Reading.{given, cut, behind, has_no_leading_zero, long_of, number_of, two_numbers, three_numbers, bytes_of};
+ghost use Rattle.cmm_check.specs.Reading.{given, cut, without_front, has_no_leading_zero, long_of, numeral_of, two_numbers, three_numbers, hex_bytes};
 
 use cmm_types::{Bytes64, MAX_BYTES};
 
@@ -23,9 +23,9 @@ pub fn cut(text: &[u8], byte: u8) -> Option<(&[u8], &[u8])>
 }
 
 /// The text behind these first bytes.
-#[tactic(auto, unfolding(crate::specs::Reading::behind))]
-pub fn behind<'a>(text: &'a [u8], front: &[u8]) -> Option<&'a [u8]>
-    ensures { option_copied result ≡ behind front.now text.now }
+#[tactic(auto, unfolding(crate::specs::Reading::without_front))]
+pub fn without_front<'a>(text: &'a [u8], front: &[u8]) -> Option<&'a [u8]>
+    ensures { option_copied result ≡ without_front front.now text.now }
 {
     text.strip_prefix(front)
 }
@@ -66,9 +66,9 @@ pub fn read_long(word: &[u8]) -> Option<u64>
     Some(number)
 }
 
-#[tactic(auto, unfolding(crate::specs::Reading::number_of))]
+#[tactic(auto, unfolding(crate::specs::Reading::numeral_of))]
 pub fn read_number(word: &[u8]) -> Option<u32>
-    ensures { result ≡ number_of word.now }
+    ensures { result ≡ numeral_of word.now }
 {
     let number = read_long(word)?;
     if number <= u64::from(u32::MAX) {
@@ -105,9 +105,9 @@ fn has_upper_case(digits: &[u8]) -> bool
 }
 
 /// 1 to 64 bytes from their hexadecimal digits in lower case.
-#[tactic(auto, unfolding(crate::specs::Reading::bytes_of))]
+#[tactic(auto, unfolding(crate::specs::Reading::hex_bytes))]
 pub fn read_bytes(digits: &[u8]) -> Option<Bytes64>
-    ensures { result ≡ bytes_of digits.now }
+    ensures { result ≡ hex_bytes digits.now }
 {
     if has_upper_case(digits) {
         return None;

@@ -1,4 +1,5 @@
-use crate::{InputError, Verdict, check, judge, read_answer, read_entry, split};
+use crate::{InputError, Verdict, check, judge, read_answer, read_entry, split, write_verdict};
+use cmm_io::MemSink;
 use cmm_scenario::read_scenario;
 use cmm_types::{Alone, Answer, Bytes64, Cause, FlatRefusal, Refused, Reply, Turn};
 use std::alloc::Global;
@@ -344,5 +345,15 @@ fn judges_the_report_behind_a_scenario(rt: HostRuntime) -> Result<(), Fail> {
             Err(InputError::Fault { .. })
         )
     );
+    Ok(())
+}
+
+#[test]
+fn writes_the_line_of_each_verdict(rt: HostRuntime) -> Result<(), Fail> {
+    let alloc = rt.alloc();
+    let mut sink = MemSink::open(alloc, 64, Vec::new(alloc))?;
+    write_verdict(&mut sink, Verdict::Accepted)?;
+    write_verdict(&mut sink, Verdict::Rejected { line: u32::MAX })?;
+    assert_eq!(rt; sink.bytes(), b"accepted\nrejected 4294967295\n".as_slice());
     Ok(())
 }

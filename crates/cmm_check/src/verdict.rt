@@ -2,9 +2,9 @@ ghost use Rattle.std.specs.Prelude.{◌≡◌, ◌+◌, ◌-◌, ◌^◌, ◌<�
 ghost use Rattle.cmm_types.specs.declared.plan.TheConstants.{MAX_GUESTS};
 ghost use Rattle.cmm_types.specs.InRange.{GuestInRange, ScenarioInRange};
 ghost use Rattle.cmm_check.specs.declared.verdict.Verdict.TheVariants.{Rejected};
-ghost use Rattle.cmm_check.specs.Journal.{start_seen, entry_fits};
+ghost use Rattle.cmm_check.specs.Journal.{no_lines_walked, entry_fits};
 ghost use Rattle.cmm_check.specs.Verdict.{line_that, events_fit, entries_fit, guest_fits, guests_fit, schedule_fits, report_fits, line_number, verdict_of};
-ghost use Rattle.cmm_check.specs.Leads.{Leads};
+ghost use Rattle.cmm_check.specs.WalkAnswers.{GivesPart};
 
 use crate::NoMemory;
 use crate::journal::Journal;
@@ -22,7 +22,7 @@ pub enum Verdict {
 }
 
 fn events(count: u32, text: &[u8]) -> Result<&[u8], Stop<'_>>
-    ensures { Leads (λ rest. rest.now) result (events_fit 0 count text.now) }
+    ensures { GivesPart (λ rest. rest.now) result (events_fit 0 count text.now) }
 {
     let mut rest = text;
     for number in 0..count {
@@ -42,7 +42,7 @@ fn entry_line<'a>(
 ) -> Result<&'a [u8], Stop<'a>>
     requires range { GuestInRange plan.now }
     requires same { length journal.old.walk.cpus ≡ length plan.now.cpus }
-    ensures fits { Leads (λ rest. (journal.new, rest.now)) result (line_that (entry_fits plan.now journal.old) text.now) }
+    ensures fits { GivesPart (λ rest. (journal.new, rest.now)) result (line_that (entry_fits plan.now journal.old) text.now) }
     ensures same { length journal.new.walk.cpus ≡ length plan.now.cpus }
 {
     let Some((line, rest)) = cut(text, b'\n') else {
@@ -62,7 +62,7 @@ fn entries<'a>(
     text: &'a [u8],
 ) -> Result<&'a [u8], Stop<'a>>
     requires { GuestInRange plan.now }
-    ensures { Leads (λ rest. rest.now) result (entries_fit plan.now (start_seen plan.now) count text.now) }
+    ensures { GivesPart (λ rest. rest.now) result (entries_fit plan.now (no_lines_walked plan.now) count text.now) }
 {
     let mut journal = match Journal::open(alloc, plan) {
         Ok(journal) => journal,
@@ -85,7 +85,7 @@ fn guest<'a>(
     text: &'a [u8],
 ) -> Result<&'a [u8], Stop<'a>>
     requires { GuestInRange plan.now }
-    ensures { Leads (λ rest. rest.now) result (guest_fits run number plan.now text.now) }
+    ensures { GivesPart (λ rest. rest.now) result (guest_fits run number plan.now text.now) }
 {
     let (count, rest) = guest_line(run, number, plan, text)?;
     entries(alloc, plan, count, rest)
@@ -101,7 +101,7 @@ fn guests<'a>(
 ) -> Result<&'a [u8], Stop<'a>>
     requires few { number + length plans.now ≤ MAX_GUESTS }
     requires range { All GuestInRange plans.now }
-    ensures { Leads (λ rest. rest.now) result (guests_fit run number plans.now text.now) }
+    ensures { GivesPart (λ rest. rest.now) result (guests_fit run number plans.now text.now) }
 {
     match plans {
         [] => Ok(text),
@@ -114,7 +114,7 @@ fn guests<'a>(
 
 /// The events of a replay; a run has none.
 fn schedule(run: bool, count: u32, text: &[u8]) -> Result<&[u8], Stop<'_>>
-    ensures { Leads (λ rest. rest.now) result (schedule_fits run count text.now) }
+    ensures { GivesPart (λ rest. rest.now) result (schedule_fits run count text.now) }
 {
     if run { Ok(text) } else { events(count, text) }
 }
@@ -122,7 +122,7 @@ fn schedule(run: bool, count: u32, text: &[u8]) -> Result<&[u8], Stop<'_>>
 #[tactic(auto, unfolding(crate::specs::Verdict::report_fits))]
 fn lines<'a>(alloc: Global, plan: &Scenario, report: &'a [u8]) -> Result<&'a [u8], Stop<'a>>
     requires { ScenarioInRange plan.now }
-    ensures { Leads (λ rest. rest.now) result (report_fits plan.now report.now) }
+    ensures { GivesPart (λ rest. rest.now) result (report_fits plan.now report.now) }
 {
     let (run, rest) = first_line(report)?;
     let rest = schedule(run, plan.schedule.len() as u32, rest)?;

@@ -1,5 +1,6 @@
 -- What reading a line leaves to show.
-use Rattle.std.proofs.Common.{◌≡◌, ◌∙◌, ◌<◌, ◌⊎◌, ◌&&◌, ◌^◌, ℕ, List, [], ◌∷◌, length, map, get_or, codes, Bool, true, false, not, nat_lt, Option, Some, None, Result, Ok, Err, true≢false, lt-ltb, ltb-true, refl, sym, ap, subst, inl, inr, arith, All}
+use Rattle.std.proofs.Common.{◌≡◌, ◌∙◌, ◌<◌, ◌⊎◌, ◌&&◌, ◌^◌, ℕ, List, [], ◌∷◌, length, map, get_or, codes, Bool, true, false, not, nat_lt, Option, Some, None, Result, Ok}
+use Rattle.std.proofs.Common.{Err, true≢false, lt-ltb, ltb-true, refl, sym, ap, subst, inl, inr, arith, All}
 use Rattle.std.specs.Prelude.{if◌then◌else◌}
 use Rattle.std.specs.List.{list_any}
 use Rattle.std.specs.Str.{bytes_eq, all_ascii_digits}
@@ -10,17 +11,19 @@ use Rattle.std.proofs.lemmas.List.Folds.{list_any_at}
 use Rattle.clap.proofs.WalkLemmas.{list_any-map, both}
 use Rattle.cmm_line.specs.declared.line.Line.{Line}
 use Rattle.cmm_line.specs.Words.{is_option}
-use Rattle.cmm_line.specs.Line.{has_leading_zero, is_decimal, number_of, start_and_size, line_named, line_in, line_of}
+use Rattle.cmm_line.specs.Line.{has_leading_zero, is_decimal, decimal_number, start_and_size, line_named, line_in, line_of}
 
 -- no name has a line of these words
-all_none : (a b : Bool) → ◌≡◌ {A = Option Line} (if a then None else if b then None else None) None
-all_none true b = refl
-all_none false true = refl
-all_none false false = refl
+all_none : (a b c d : Bool) → ◌≡◌ {A = Option Line} (if a then None else if b then None else if c then None else if d then None else None) None
+all_none true b c d = refl
+all_none false true c d = refl
+all_none false false true d = refl
+all_none false false false true = refl
+all_none false false false false = refl
 
 too_many : (name a b c : List ℕ) (rest : List (List ℕ)) → line_named name (a ∷ b ∷ c ∷ rest) ≡ None
 unfolding line_named start_and_size
-too_many name a b c rest = all_none (bytes_eq name (codes "replay")) (bytes_eq name (codes "gen"))
+too_many name a b c rest = all_none (bytes_eq name (codes "replay")) (bytes_eq name (codes "check")) (bytes_eq name (codes "gen")) (bytes_eq name (codes "demo"))
 
 -- no words, or more than three, are no line
 pub other_count : (words : List (List ℕ)) → (words ≡ []) ⊎ (3 < length words) → line_in words ≡ None
@@ -56,10 +59,10 @@ no_plus : (word : List ℕ) → all_ascii_digits word ≡ true → without_leadi
 no_plus [] digits = without_leading_plus_none [] (λ e. omega (arith, e))
 no_plus (c ∷ cs) digits = let range = tells_all_ascii_digits.parts c cs digits in without_leading_plus_none (c ∷ cs) (λ e. omega (arith, e, range.0))
 
-as_number : {E : Type 0} (word : List ℕ) (r : Result ℕ E) → is_decimal word ≡ true → OkIff r (IsNumeral 10 word × (digits_value 10 word < 2 ^ 64)) (digits_value 10 word) → result_ok r ≡ number_of word
-unfolding number_of
-as_number word (Ok n) decimal reads = let small : nat_lt (digits_value 10 word) (2 ^ 64) ≡ true = lt-ltb _ _ reads.0.1 in rw (decimal, small) (ap Some reads.1)
-as_number word (Err e) decimal fails = go (nat_lt (digits_value 10 word) (2 ^ 64)) refl
+as_decimal : {E : Type 0} (word : List ℕ) (r : Result ℕ E) → is_decimal word ≡ true → OkIff r (IsNumeral 10 word × (digits_value 10 word < 2 ^ 64)) (digits_value 10 word) → result_ok r ≡ decimal_number word
+unfolding decimal_number
+as_decimal word (Ok n) decimal reads = let small : nat_lt (digits_value 10 word) (2 ^ 64) ≡ true = lt-ltb _ _ reads.0.1 in rw (decimal, small) (ap Some reads.1)
+as_decimal word (Err e) decimal fails = go (nat_lt (digits_value 10 word) (2 ^ 64)) refl
   where
     go : (b : Bool) → nat_lt (digits_value 10 word) (2 ^ 64) ≡ b → None ≡ (if is_decimal word && b then Some (digits_value 10 word) else None)
     go false small = rw decimal refl
@@ -69,8 +72,8 @@ as_number word (Err e) decimal fails = go (nat_lt (digits_value 10 word) (2 ^ 64
         absurd (fails ((ltb-true 0 (length word) parts.0, (numerals_by_value _ tells_all_ascii_digits).to word digits.1), ltb-true (digits_value 10 word) (2 ^ 64) small))
 
 -- what `parse` reads of a word without a leading 0
-pub parsed : {E : Type 0} (word : List ℕ) (r : Result ℕ E) → is_decimal word ≡ true → ParsesUnsigned 64 10 word r → result_ok r ≡ number_of word
+pub parsed : {E : Type 0} (word : List ℕ) (r : Result ℕ E) → is_decimal word ≡ true → ParsesUnsigned 64 10 word r → result_ok r ≡ decimal_number word
 parsed word r decimal reads =
     let parts = both (nat_lt 0 (length word)) (not (has_leading_zero word) && all_ascii_digits word) decimal in
     let digits = both (not (has_leading_zero word)) (all_ascii_digits word) parts.1 in
-    as_number word r decimal (subst (λ w. OkIff r (IsNumeral 10 w × (digits_value 10 w < 2 ^ 64)) (digits_value 10 w)) (no_plus word digits.1) reads)
+    as_decimal word r decimal (subst (λ w. OkIff r (IsNumeral 10 w × (digits_value 10 w < 2 ^ 64)) (digits_value 10 w)) (no_plus word digits.1) reads)

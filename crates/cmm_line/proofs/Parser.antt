@@ -6,7 +6,8 @@ use Rattle.std.specs.Option.{option_map_or}
 use Rattle.std.specs.Str.{bytes_eq}
 use Rattle.clap.specs.Lexer.{long_of, short_of}
 use Rattle.std.specs.Borrow.{Bor}
-use Rattle.clap.specs.Walk.{Text, Rule, Held, Step, Walk, idle, value, word_met, walked, walk, nothing_held, to_positional, arg_by_index, after_step, trailing, long_or_other, short_or_plain, settled, finished, first_of}
+use Rattle.clap.specs.Walk.{Text, Rule, Held, Step, Walk, idle, value, word_met, walked, walk, nothing_held, to_positional, arg_by_index, after_step, trailing}
+use Rattle.clap.specs.Walk.{long_or_other, short_or_plain, settled, finished, first_of}
 use Rattle.clap.specs.Words.{Shape, built, matches_of, fault_of, is_simple, is_simple_and_free, Kinds, HasKind, kind_of}
 use Rattle.clap.specs.Simple.{entered}
 use Rattle.clap.specs.Kinds.{or_else}

@@ -2,7 +2,7 @@ ghost use Rattle.std.specs.Prelude.{◌≡◌, [], ◌∷◌, map, string_bytes,
 ghost use Rattle.std.specs.List.{list_any};
 ghost use Rattle.std.specs.Str.{all_ascii_digits};
 ghost use Rattle.cmm_line.specs.Words.{is_option, rest_of};
-ghost use Rattle.cmm_line.specs.Line.{IsSize, HasSize, has_leading_zero, is_decimal, number_of, size_of, start_and_size, line_named, line_of};
+ghost use Rattle.cmm_line.specs.Line.{IsSize, HasSize, has_leading_zero, is_decimal, decimal_number, size_of, start_and_size, line_named, line_of};
 
 use crate::words::{Words, read_words};
 use std::alloc::{AllocError, Global};
@@ -18,8 +18,12 @@ pub const MAX_SIZE: u32 = 20_000;
 pub enum Line {
     /// `replay`: read a scenario, play its schedule and write the report.
     Replay,
+    /// `check`: read a scenario and a report, and write whether the report is legal.
+    Check,
     /// `gen START SIZE`: write the scenario that is generated from a number.
     Gen { start: u64, size: u32 },
+    /// `demo START SIZE`: play the scenario that is generated from a number, and write what came of it in one line.
+    Demo { start: u64, size: u32 },
 }
 
 fn has_leading_zero(word: &[u8]) -> bool
@@ -46,9 +50,9 @@ fn is_decimal(word: &[u8]) -> bool
 }
 
 /// The number that a word spells, without a leading 0.
-#[tactic(auto, unfolding(crate::specs::Line::number_of))]
-fn number_of(word: &str) -> Option<u64>
-    ensures { result ≡ number_of word.now }
+#[tactic(auto, unfolding(crate::specs::Line::decimal_number))]
+fn decimal_number(word: &str) -> Option<u64>
+    ensures { result ≡ decimal_number word.now }
 {
     if is_decimal(word.as_bytes()) {
         word.parse::<u64>().ok()
@@ -62,7 +66,7 @@ fn size_of(word: &str) -> Option<u32>
     ensures is { result ≡ size_of word.now }
     ensures within { IfSome result IsSize }
 {
-    let size = number_of(word)?;
+    let size = decimal_number(word)?;
     if u64::from(MIN_SIZE) <= size && size <= u64::from(MAX_SIZE) {
         Some(size as u32)
     } else {
@@ -75,7 +79,7 @@ fn start_and_size(start: &str, size: &str) -> Option<(u64, u32)>
     ensures are { result ≡ start_and_size (start.now ∷ size.now ∷ []) }
     ensures within { IfSome result (λ p. IsSize p.1) }
 {
-    let start = number_of(start)?;
+    let start = decimal_number(start)?;
     let size = size_of(size)?;
     Some((start, size))
 }
@@ -87,9 +91,14 @@ fn line_named(words: &Words<'_>) -> Option<Line>
 {
     match (words.name, words.start, words.size) {
         ("replay", None, None) => Some(Line::Replay),
+        ("check", None, None) => Some(Line::Check),
         ("gen", Some(start), Some(size)) => {
             let (start, size) = start_and_size(start, size)?;
             Some(Line::Gen { start, size })
+        }
+        ("demo", Some(start), Some(size)) => {
+            let (start, size) = start_and_size(start, size)?;
+            Some(Line::Demo { start, size })
         }
         _ => None,
     }

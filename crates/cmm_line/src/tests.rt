@@ -4,8 +4,9 @@ use std::test::Fail;
 #[test]
 fn reads_the_words_of_the_line(rt: HostRuntime) -> Result<(), Fail> {
     let start = u64::MAX;
-    let table: [(&[&str], Option<Line>); 20] = [
+    let table: [(&[&str], Option<Line>); 23] = [
         (&["replay"], Some(Line::Replay)),
+        (&["check"], Some(Line::Check)),
         (&["gen", "7", "8"], Some(Line::Gen { start: 7, size: 8 })),
         (
             &["gen", "18446744073709551615", "20000"],
@@ -14,10 +15,18 @@ fn reads_the_words_of_the_line(rt: HostRuntime) -> Result<(), Fail> {
                 size: 20_000,
             }),
         ),
-        (&["demo", "7", "2000"], None),
+        (
+            &["demo", "7", "2000"],
+            Some(Line::Demo {
+                start: 7,
+                size: 2000,
+            }),
+        ),
+        (&["demo", "7"], None),
         (&[], None),
         (&[""], None),
         (&["replay", "x"], None),
+        (&["check", "x"], None),
         (&["gen", "7"], None),
         (&["gen", "7", "7"], None),
         (&["gen", "7", "20001"], None),

@@ -2,6 +2,7 @@
 use Rattle.std.specs.Prelude.{ℕ, List, [], ◌∷◌, ◌++◌, Bool, true, false, codes, decimal}
 use Rattle.cmm_types.specs.declared.event.Answer.{Answer}
 use Rattle.cmm_types.specs.declared.command.Entry.{Entry}
+use Rattle.cmm_report.specs.declared.report.Totals.{Totals}
 use Rattle.cmm_report.specs.Texts.{answer_text, reply_text}
 
 -- a line's text with its line feed
@@ -25,3 +26,9 @@ entry_line entry = line (decimal entry.cpu ++ codes " " ++ decimal entry.k ++ co
 
 abbrev pub end_line : List ℕ
 end_line = line (codes "end")
+
+-- the one line on what came of the scenario that is generated from a number, with so many commands
+abbrev pub summary_line : (start size : ℕ) → Totals → List ℕ
+summary_line start size totals =
+    line (codes "cmm2-demo 1 start " ++ decimal start ++ codes " size " ++ decimal size ++ codes " events " ++ decimal totals.events
+    ++ codes " entries " ++ decimal totals.entries ++ codes " discards " ++ decimal totals.discards ++ codes " faults " ++ decimal totals.faults)

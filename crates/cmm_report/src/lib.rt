@@ -9,7 +9,8 @@ mod report;
 mod texts;
 
 pub use law::{text_determines_journal, text_determines_journals};
-pub use report::{write_end, write_events, write_guest, write_head};
+pub use line::Line;
+pub use report::{Totals, write_end, write_events, write_guest, write_head, write_summary};
 pub use texts::is_reply_text;
 
 #[cfg(test)]

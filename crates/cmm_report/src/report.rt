@@ -1,11 +1,24 @@
 ghost use Rattle.cmm_io.specs.SinkBytes.{Writes};
-ghost use Rattle.cmm_report.specs.Lines.{head_line, end_line};
+ghost use Rattle.cmm_report.specs.Lines.{head_line, end_line, summary_line as summary_line_of};
 ghost use Rattle.cmm_report.specs.Report.{events_text, journal_text, guest_text};
 
 use crate::line::Line;
-use crate::lines::{entry_line, event_line, guest_line};
+use crate::lines::{entry_line, event_line, guest_line, summary_line};
 use cmm_io::{Sink, WriteFault, write_all};
 use cmm_types::{Answer, Entry};
+
+/// What came of a replay, over all guests.
+#[derive(Clone, Copy, Debug, PartialEq, Eq)]
+pub struct Totals {
+    /// How many events were played.
+    pub events: u64,
+    /// How many lines the journals have.
+    pub entries: u64,
+    /// How often a page was discarded.
+    pub discards: u64,
+    /// How often a discard handler ran.
+    pub faults: u64,
+}
 
 fn write_line<K: Sink>(out: &mut K, line: &Line) -> Result<(), WriteFault>
     ensures { Writes K.faults K.written out.old out.new line.now result }
@@ -66,4 +79,17 @@ pub fn write_end<K: Sink>(out: &mut K) -> Result<(), WriteFault>
     ensures { Writes K.faults K.written out.old out.new end_line result }
 {
     write_all(out, b"end\n")
+}
+
+/// Writes the one line that tells what came of a generated scenario.
+pub fn write_summary<K: Sink>(
+    out: &mut K,
+    start: u64,
+    size: u64,
+    totals: &Totals,
+) -> Result<(), WriteFault>
+    ensures { Writes K.faults K.written out.old out.new (summary_line_of start size totals.now) result }
+{
+    let line = summary_line(start, size, totals);
+    write_line(out, &line)
 }

@@ -1,4 +1,4 @@
-use crate::{write_end, write_events, write_guest, write_head};
+use crate::{Totals, write_end, write_events, write_guest, write_head, write_summary};
 use cmm_io::MemSink;
 use cmm_types::{Alone, Answer, Bytes64, Cause, Entry, FlatRefusal, Op, Refused, Reply, Turn, Why};
 use std::test::Fail;
@@ -116,5 +116,20 @@ fn writes_the_first_and_the_last_line(rt: HostRuntime) -> Result<(), Fail> {
     write_end(&mut sink)?;
     let lines = "cmm2-report 1 replay\ncmm2-report 1 run\nend\n";
     assert_eq!(rt; sink.bytes(), lines.as_bytes());
+    Ok(())
+}
+
+#[test]
+fn writes_the_line_of_totals(rt: HostRuntime) -> Result<(), Fail> {
+    let mut sink = MemSink::open(rt.alloc(), 256, Vec::new(rt.alloc()))?;
+    let totals = Totals {
+        events: 2375,
+        entries: 2000,
+        discards: 31,
+        faults: 4,
+    };
+    write_summary(&mut sink, 7, 2000, &totals)?;
+    let line = "cmm2-demo 1 start 7 size 2000 events 2375 entries 2000 discards 31 faults 4\n";
+    assert_eq!(rt; sink.bytes(), line.as_bytes());
     Ok(())
 }

@@ -1,4 +1,4 @@
-use Rattle.std.proofs.Common.{◌≡◌, ◌<◌, ◌+◌, ◌++◌, length, Ok, sym, ap, subst, arith}
+use Rattle.std.proofs.Common.{◌≡◌, ◌<◌, ◌+◌, length, Ok, sym, ap, subst, arith}
 use Rattle.cmm_io.specs.SinkBytes.{Writes}
 use Rattle.cmm_io.specs.Laws.SinkBytesLaws.{Writes-then, Writes-stop, Writes-nothing}
 use Rattle.cmm_io.specs.declared.write.WriteFault.{WriteFault}

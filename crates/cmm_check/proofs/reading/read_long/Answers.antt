@@ -9,13 +9,16 @@ returns-then-not-is_ascii_digit c =
 
 pub returns-in_err-number : goal.returns-in_err-number
 returns-in_err-number c =
-    let none = too_large c.args.word.now c.loop-digit.digit-index c.loop-digit.number c.loop-digit-test.true (sym c.is_ascii_digit.ensures.value ∙ c.if-not-is_ascii_digit.false) c.loop-digit.invariant.value (sym c.with_digit.ensures ∙ c.in_err-number.was) in
+    let none = too_large c.args.word.now c.loop-digit.digit-index c.loop-digit.number c.loop-digit-test.true
+    (sym c.is_ascii_digit.ensures.value ∙ c.if-not-is_ascii_digit.false) c.loop-digit.invariant.value (sym c.with_digit.ensures ∙ c.in_err-number.was) in
     c.from_residual.ensures ∙ sym none
 
 pub loop-digit-preserved : goal.loop-digit-preserved
 loop-digit-preserved c =
-    let more = one_more c.args.word.now c.loop-digit.digit-index c.loop-digit.number c.in_ok-number.number c.loop-digit-test.true (sym c.is_ascii_digit.ensures.value ∙ c.if-not-is_ascii_digit.false) c.loop-digit.invariant.digits c.loop-digit.invariant.value (sym c.with_digit.ensures ∙ c.in_ok-number.was) in
+    let more = one_more c.args.word.now c.loop-digit.digit-index c.loop-digit.number c.in_ok-number.number c.loop-digit-test.true
+    (sym c.is_ascii_digit.ensures.value ∙ c.if-not-is_ascii_digit.false) c.loop-digit.invariant.digits c.loop-digit.invariant.value (sym c.with_digit.ensures ∙ c.in_ok-number.was) in
     record { digits = more.digits; value = more.value; small = more.small }
 
 pub returns : goal.returns
-returns c = whole_word c.args.word.now c.loop-digit.digit-index c.loop-digit.number c.loop-digit-test.false (sym c.has_no_leading_zero.ensures ∙ c.if-not-has_no_leading_zero.false) c.loop-digit.invariant.digits c.loop-digit.invariant.value c.loop-digit.invariant.small
+returns c = whole_word c.args.word.now c.loop-digit.digit-index c.loop-digit.number c.loop-digit-test.false
+    (sym c.has_no_leading_zero.ensures ∙ c.if-not-has_no_leading_zero.false) c.loop-digit.invariant.digits c.loop-digit.invariant.value c.loop-digit.invariant.small

@@ -1,7 +1,7 @@
 use Rattle.std.proofs.Common.{◌≡◌, ◌∙◌, true, rules}
 use Rattle.cmm_line.specs.Line.{is_decimal}
 use Rattle.cmm_line.proofs.Lines.{parsed}
-use Rattle.cmm_line.proofs.line.number_of.Goals as goal
+use Rattle.cmm_line.proofs.line.decimal_number.Goals as goal
 
 pub returns-then-is_decimal : goal.returns-then-is_decimal
 returns-then-is_decimal c =
