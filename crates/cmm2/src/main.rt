@@ -1,11 +1,17 @@
 //! `cmm2`: plays guests that hint what they need of their pages, on a host with less memory than they were given.
 #![tactic(auto)]
 
-use cmm_io::{Sink, Source, StdSink, StdSource};
+ghost use Rattle.std.specs.Prelude.{◌≡◌, ◌≢◌, [], true, false};
+ghost use Rattle.cmm_io.specs.Faults.{raised};
+ghost use Rattle.cmm_output.specs.Output.{held_back, output_faults};
+ghost use Rattle.cmm2_cli.specs.Status.{has_written};
+
+use cmm_io::{Sink, Source, StdSource, WriteFault};
+use cmm_output::Output;
 use cmm2_cli::{Status, cmm2_replay};
 use std::alloc::AllocError;
 use std::env;
-use std::io::ErrorKind;
+use std::io::{ErrorKind, Write};
 use std::process::ExitCode;
 
 /// The words of the command line behind the program's name. A word that isn't text makes no command line.
@@ -20,16 +26,38 @@ fn words_of(rt: &HostRuntime) -> Result<Vec<String>, AllocError> {
     }
 }
 
-/// Does what the words ask for, from standard input to standard output. The status tells of a failed read exactly
-/// where one was counted, and of a failed write likewise.
+/// Hands on what is still held back of a text that was written whole. Where that fails, it is a failed write.
+fn finish<W: Write + Drop>(output: &mut Output<W>, status: Status) -> Status
+    ensures unwritten { has_written status ≡ false → (result ≡ status) × (output.new ≡ output.old) }
+    ensures written { has_written status ≡ true → result ≢ Status.WriteFault →
+        (result ≡ status) × (held_back output.new ≡ []) × (output_faults output.new ≡ output_faults output.old) }
+    ensures failed { has_written status ≡ true → result ≡ Status.WriteFault → output_faults output.new ≡ raised (output_faults output.old) }
+{
+    if !status.has_written() {
+        return status;
+    }
+    match output.flush() {
+        Ok(()) => status,
+        Err(WriteFault) => Status::WriteFault,
+    }
+}
+
+/// Does what the words ask for, from standard input to standard output, which is written 64 KiB at a time. The status
+/// tells of a failed read exactly where one was counted, and of a failed write likewise; where none failed, nothing is
+/// held back.
 fn serve(rt: &HostRuntime, words: &[String]) -> Status {
+    let Ok(mut output) = Output::open(rt.alloc(), rt.stdout()) else {
+        return Status::NoMemory;
+    };
     let mut source = StdSource::new(rt.stdin());
-    let mut sink = StdSink::new(rt.stdout());
-    let status = cmm2_replay(rt.alloc(), words, &mut source, &mut sink);
+    let status = cmm2_replay(rt.alloc(), words, &mut source, &mut output);
+    let status = finish(&mut output, status);
     let reads_failed = source.faults();
-    let writes_failed = sink.faults();
+    let writes_failed = output.faults();
+    let held_back = output.held_back();
     prove!((reads_failed == 1) == (status == Status::ReadFault));
     prove!((writes_failed == 1) == (status == Status::WriteFault));
+    prove!(status == Status::WriteFault || held_back == 0);
     status
 }
 
