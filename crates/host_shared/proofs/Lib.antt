@@ -2,3 +2,9 @@ pub mod Looking
 pub mod Moving
 pub mod Seats
 pub mod Passing
+pub mod Supplies
+pub mod Searches
+pub mod Founds
+pub mod Holds
+pub mod Following
+pub mod Stepping

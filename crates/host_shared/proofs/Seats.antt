@@ -1,7 +1,9 @@
 -- A list of seats of the host with one of them changed.
 use Rattle.std.specs.Prelude.{◌≡◌, ℕ, ◌+◌, ◌<◌, List, length, map, None, slice_set, slice_index_or}
 use Rattle.std.proofs.Common.{arith, ap, sym, ◌∙◌}
-use Rattle.std.proofs.lemmas.List.{get_or-map, map-set, length-map, set-get_or}
+use Rattle.std.specs.Global.{Vec}
+use Rattle.std.specs.Vec.{with_items}
+use Rattle.std.proofs.lemmas.List.{get_or-map, map-set, length-map, set-get_or, with_items_is}
 use Rattle.std.proofs.lemmas.List.Elements.{All-set, All-get_or}
 use Rattle.std.proofs.lemmas.List.Sums.{sum_by-set}
 use Rattle.state_words.specs.SeatView.{WordsView, Seated}
@@ -41,3 +43,8 @@ module _ (words : List WordsView) (pool : PoolId) (seats : List Seated) (seat : 
 pub freed_set : (seats : List Seated) (guest n : ℕ) (d s : Seated) → guest < length seats → n + freed_in (slice_index_or seats guest d).view ≡ freed_in s.view →
     n + freed_in_all seats ≡ freed_in_all (slice_set seats guest s)
 freed_set seats guest n d s inside more = let total = sum_by-set (λ (q : Seated). freed_in q.view) seats guest s d inside in omega (arith, total, more)
+
+-- the seats of a `Vec` that was lent as a slice, once it has come back
+pub refilled : (words : List WordsView) (pool : PoolId) (v : Vec Seated) (new : List Seated) (seat after : PoolSeatView) → CanReclaim words pool v.items seat →
+    CanReclaim words pool new after → (with_items v new).items ≡ new
+refilled words pool v new seat after before can = with_items_is v new (seats_count words pool new after can ∙ sym (seats_count words pool v.items seat before) ∙ sym v.ok.0)

@@ -1,3 +1,10 @@
 pub mod Bodies
 pub mod Looks
 pub mod Reclaiming
+pub mod Holding
+pub mod PagerCalls
+pub mod Searching
+pub mod Touching
+pub mod Finding
+pub mod Binding
+pub mod Served

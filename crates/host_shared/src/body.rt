@@ -3,9 +3,10 @@ ghost use Rattle.std.specs.Prelude.{◌≡◌, ◌+◌, ◌≤◌, length, take,
 ghost use Rattle.cmm_types.specs.declared.page.TheConstants.{PAGE};
 ghost use Rattle.cmm_types.specs.declared.page.Move.TheVariants.{Discard, Preserve};
 ghost use Rattle.cmm_io.specs.Faults.{HasRisen};
-ghost use Rattle.cmm_pager.specs.PagerCall.{Put, Get};
+ghost use Rattle.cmm_pager.specs.PagerCall.{Put};
 ghost use Rattle.essa_state.specs.PageBody.{frame_bytes, moved_body};
 ghost use Rattle.state_words.specs.Accesses.{touched_body, stored_body};
+ghost use Rattle.host_shared.specs.PagerCalls.{GetsOnce};
 ghost use Rattle.host_shared.specs.Bodies.{IsOfHouse, IsPageBody, lent_body, house_of};
 ghost use Rattle.cmm_types.specs.declared.page.Content.TheVariants.{Preserved, Zero};
 
@@ -74,7 +75,7 @@ impl PageBody {
     }
 
     /// Gives up the frame.
-    pub(crate) fn discard(&mut self) -> Option<Loan>
+    pub fn discard(&mut self) -> Option<Loan>
         ensures body { lent_body self.new ≡ moved_body Discard (lent_body self.old) }
         ensures pool { self.new.pool ≡ self.old.pool }
         ensures loan { result ≡ self.old.loan }
@@ -121,9 +122,11 @@ impl PageBody {
         ensures pool { self.new.pool ≡ self.old.pool }
         ensures faults { P.faults pager.old ≤ P.faults pager.new }
         ensures body { IfOk result (λ u. lent_body self.new ≡ touched_body Preserved (lent_body self.old)) }
+        ensures whole { IfOk result (λ u. IsPageBody self.new) }
         ensures same { IfErr result (λ back. self.new ≡ self.old) }
         ensures back { IfErr result (IsOfHouse (house_of self.old)) }
         ensures risen { IfErr result (λ back. HasRisen (P.faults pager.old) (P.faults pager.new)) }
+        ensures gets { GetsOnce P.step pager.old pager.new }
     {
         match pager.get(&self.block, loan.bytes_mut()) {
             Ok(()) => {
@@ -139,6 +142,7 @@ impl PageBody {
         requires housed { IsOfHouse (house_of self.old) loan }
         ensures pool { self.new.pool ≡ self.old.pool }
         ensures body { lent_body self.new ≡ touched_body Zero (lent_body self.old) }
+        ensures whole { IsPageBody self.new }
     {
         loan.bytes_mut().fill(0);
         self.loan = Some(loan);
@@ -161,6 +165,7 @@ impl PageBody {
         requires within { off + length from.now ≤ PAGE }
         ensures pool { self.new.pool ≡ self.old.pool }
         ensures body { lent_body self.new ≡ stored_body (lent_body self.old) off from.now }
+        ensures whole { IsPageBody self.new }
     {
         let end = off + from.len();
         match &mut self.loan {

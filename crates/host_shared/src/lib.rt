@@ -2,9 +2,15 @@
 #![tactic(auto)]
 
 mod body;
+mod bound;
 mod gate;
+mod held;
 mod reclaim;
+mod search;
+mod storage;
 
 pub use body::PageBody;
+pub use bound::Bound;
 pub use gate::{Gate, PassGate, Point, Who};
 pub use reclaim::{Outcome, reclaim_page, reclaim_pass};
+pub use storage::WordStorage;

@@ -23,11 +23,26 @@ returns-then-eq-clause-outcome g c v claimed =
 pub returns-in-Ok-clause-outcome : goal.returns-in-Ok-clause-outcome
 returns-in-Ok-clause-outcome g c v claimed =
     gave_back Preserved c.args.page c.args.urgent v c.args.seat.now.view c.release-in-Ok.new.self.view c.args.word (lent_body c.args.body) (Some Preserve) _ _ claimed
-    c.release-in-Ok.ensures.view c.requires.free
-    (record { free = c.requires.free; resident = search rules; not_spared = search rules; chosen = not_discard c.args.word (λ e. let is = c.reclaiming_move.ensures.chosen ∙ e in search (rules, is)) }, refl)
+    c.release-in-Ok.ensures.view c.requires.free (
+      record {
+        free = c.requires.free;
+        resident = search rules;
+        not_spared = search rules;
+        chosen = not_discard c.args.word (λ e. let is = c.reclaiming_move.ensures.chosen ∙ e in search (rules, is));
+      },
+      refl,
+    )
 
 pub returns-in-Err-clause-outcome : goal.returns-in-Err-clause-outcome
 returns-in-Err-clause-outcome g c v claimed =
     gave_back Paging c.args.page c.args.urgent v c.args.seat.now.view c.release-in-Err.new.self.view c.args.word (lent_body c.args.body) None _ _ claimed
-    c.release-in-Err.ensures.view c.requires.free
-    (record { free = c.requires.free; resident = search rules; not_spared = search rules; chosen = not_discard c.args.word (λ e. let is = c.reclaiming_move.ensures.chosen ∙ e in search (rules, is)) }, refl, search rules)
+    c.release-in-Err.ensures.view c.requires.free (
+      record {
+        free = c.requires.free;
+        resident = search rules;
+        not_spared = search rules;
+        chosen = not_discard c.args.word (λ e. let is = c.reclaiming_move.ensures.chosen ∙ e in search (rules, is));
+      },
+      refl,
+      search rules,
+    )

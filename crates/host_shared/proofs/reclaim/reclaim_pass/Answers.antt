@@ -31,7 +31,8 @@ loop-guest-preserved g c =
     let given : c.reclaim_guest-freed.new.pool_seat ≡ given_more c.loop-guest.pool_seat c.reclaim_guest-freed.result = search rules in
     let count : length c.args.seats.now ≡ length c.args.words.now = seats_count c.args.words.now c.args.pool.now c.args.seats.now c.args.pool_seat.now c.requires.can in
     let some : guest < length c.args.seats.now = omega (arith, inside, count) in
-    let more : sum_by (λ (q : WordsView). q.pages) (take (guest + 1) c.args.words.now) ≡ sum_by (λ (q : WordsView). q.pages) (take guest c.args.words.now) + (slice_index_or c.args.words.now guest w).pages =
+    let more : sum_by (λ (q : WordsView). q.pages) (take (guest + 1) c.args.words.now) ≡ sum_by (λ (q : WordsView). q.pages) (take guest c.args.words.now) +
+    (slice_index_or c.args.words.now guest w).pages =
     sum_by_more (λ (q : WordsView). q.pages) c.args.words.now guest w inside in
     let pages : (slice_index_or c.args.words.now guest w).pages ≡ w.pages = ap (λ (q : WordsView). q.pages) (sym are) in (
       can_set c.args.words.now c.args.pool.now c.loop-guest.seats c.loop-guest.pool_seat now.0 guest s t c.reclaim_guest-freed.new.pool_seat
