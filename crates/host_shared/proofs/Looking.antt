@@ -7,7 +7,7 @@ use Rattle.std.proofs.lemmas.List.Concat.{flat_map-append}
 use Rattle.std.proofs.lemmas.List.Elements.{All-nil, All-push}
 use Rattle.std.proofs.lemmas.List.Sums.{sum_by-append}
 use Rattle.state_words.specs.SeatView.{SeatStep, Tried, Moved, SeatView}
-use Rattle.host_shared.specs.Looks.{Look, steps_of, LooksAt, is_page, pages_but, freed_by, freed_at, freed_in}
+use Rattle.host_shared.specs.Looks.{Look, look_steps, GrewByLooks, is_page, pages_but, freed_by, freed_at, freed_in}
 use Rattle.frame_pool.specs.Seats.{PoolSeatView}
 use Rattle.host_shared.specs.Reclaiming.{HasCause, Reclaims, IsReclaim, freed_of, given_more}
 use Rattle.host_shared.specs.declared.reclaim.Outcome.{Outcome}
@@ -24,36 +24,36 @@ page_skipped skip from n page at same =
     ∙ ap (λ (b : Bool). pages_but skip from n ++ (if b then [] else page ∷ [])) same ∙ append-nil (pages_but skip from n)
 
 module _ (IsKind : Look → Type 0) where
-  pub looks_none : (v : SeatView) → LooksAt IsKind [] v v
+  pub looks_none : (v : SeatView) → GrewByLooks IsKind [] v v
   looks_none v = record { looks = []; steps = sym (append-nil v.steps); pages_are = refl; each = All-nil IsKind }
 
-  pub looks_more : (pages : List ℕ) (v w x : SeatView) (l : Look) → LooksAt IsKind pages v w → x.steps ≡ w.steps ++ steps_of l → IsKind l → LooksAt IsKind (pages ++ l.page ∷ []) v x
+  pub looks_more : (pages : List ℕ) (v w x : SeatView) (l : Look) → GrewByLooks IsKind pages v w → x.steps ≡ w.steps ++ look_steps l → IsKind l → GrewByLooks IsKind (pages ++ l.page ∷ []) v x
   looks_more pages v w x l before steps kind = record {
     looks = before.looks ++ l ∷ [];
-    steps = steps ∙ ap (λ (s : List SeatStep). s ++ steps_of l) before.steps ∙ append_assoc v.steps (flat_map steps_of before.looks) (steps_of l)
-        ∙ ap (λ (s : List SeatStep). v.steps ++ (flat_map steps_of before.looks ++ s)) (sym (append-nil (steps_of l)))
-        ∙ ap (λ (s : List SeatStep). v.steps ++ s) (sym (flat_map-append steps_of before.looks (l ∷ [])));
+    steps = steps ∙ ap (λ (s : List SeatStep). s ++ look_steps l) before.steps ∙ append_assoc v.steps (flat_map look_steps before.looks) (look_steps l)
+        ∙ ap (λ (s : List SeatStep). v.steps ++ (flat_map look_steps before.looks ++ s)) (sym (append-nil (look_steps l)))
+        ∙ ap (λ (s : List SeatStep). v.steps ++ s) (sym (flat_map-append look_steps before.looks (l ∷ [])));
     pages_are = map-append (λ (k : Look). k.page) before.looks (l ∷ []) ∙ ap (λ (ps : List ℕ). ps ++ l.page ∷ []) before.pages_are;
     each = All-push IsKind before.looks l before.each kind;
   }
 
 -- a reclaim that isn't urgent, of the next page
-pub pass_more : (page : ℕ) (v w x : SeatView) (outcome : Outcome) (faults risen : ℕ) → LooksAt (IsReclaim false) (pages_but None 0 page) v w →
-    Reclaims outcome page false w x faults risen → LooksAt (IsReclaim false) (pages_but None 0 (page + 1)) v x
+pub pass_more : (page : ℕ) (v w x : SeatView) (outcome : Outcome) (faults risen : ℕ) → GrewByLooks (IsReclaim false) (pages_but None 0 page) v w →
+    Reclaims outcome page false w x faults risen → GrewByLooks (IsReclaim false) (pages_but None 0 (page + 1)) v x
 pass_more page v w x outcome faults risen before one =
-    let after : LooksAt (IsReclaim false) (pages_but None 0 page ++ one.look.page ∷ []) v x =
+    let after : GrewByLooks (IsReclaim false) (pages_but None 0 page ++ one.look.page ∷ []) v x =
     looks_more (IsReclaim false) (pages_but None 0 page) v w x one.look before one.steps (outcome, faults, risen, one.cause) in
     let pages : pages_but None 0 page ++ one.look.page ∷ [] ≡ pages_but None 0 (page + 1) =
     ap (λ (p : ℕ). pages_but None 0 page ++ p ∷ []) one.of_page ∙ sym (page_more None 0 page page (omega arith) refl) in
-    subst (λ (ps : List ℕ). LooksAt (IsReclaim false) ps v x) pages after
+    subst (λ (ps : List ℕ). GrewByLooks (IsReclaim false) ps v x) pages after
 
-freed_free : (l : Look) (n : ℕ) → l.word.busy ≡ false → freed_by l.action ≡ n → sum_by freed_at (steps_of l) ≡ n
+freed_free : (l : Look) (n : ℕ) → l.word.busy ≡ false → freed_by l.action ≡ n → sum_by freed_at (look_steps l) ≡ n
 freed_free l n free by = ap (λ (b : Bool). sum_by freed_at (Tried l.page l.word ∷ (if b then [] else Moved l.page l.action ∷ []))) free ∙ omega (arith, by)
 
-freed_busy : (l : Look) → l.word.busy ≡ true → sum_by freed_at (steps_of l) ≡ 0
+freed_busy : (l : Look) → l.word.busy ≡ true → sum_by freed_at (look_steps l) ≡ 0
 freed_busy l busy = ap (λ (b : Bool). sum_by freed_at (Tried l.page l.word ∷ (if b then [] else Moved l.page l.action ∷ []))) busy
 
-freed_look : (outcome : Outcome) (urgent : Bool) (l : Look) (faults risen : ℕ) → HasCause outcome urgent l faults risen → sum_by freed_at (steps_of l) ≡ freed_of outcome
+freed_look : (outcome : Outcome) (urgent : Bool) (l : Look) (faults risen : ℕ) → HasCause outcome urgent l faults risen → sum_by freed_at (look_steps l) ≡ freed_of outcome
 freed_look (Busy raw) urgent l faults risen c = freed_busy l c.1
 freed_look (Left raw) urgent l faults risen c = freed_free l 0 c.1 (ap freed_by c.3)
 freed_look Aged urgent l faults risen c = freed_free l 0 c.0 (ap freed_by c.3)
@@ -64,7 +64,7 @@ freed_look Paging urgent l faults risen c = freed_free l 0 c.0.free (ap freed_by
 -- the record counts the frame that the answer tells of
 pub freed_more : (outcome : Outcome) (page : ℕ) (urgent : Bool) (v w : SeatView) (faults risen : ℕ) → Reclaims outcome page urgent v w faults risen → freed_in w ≡ freed_in v + freed_of outcome
 freed_more outcome page urgent v w faults risen one =
-    ap (sum_by freed_at) one.steps ∙ sum_by-append freed_at v.steps (steps_of one.look)
+    ap (sum_by freed_at) one.steps ∙ sum_by-append freed_at v.steps (look_steps one.look)
     ∙ ap (λ (n : ℕ). freed_in v + n) (freed_look outcome urgent one.look faults risen one.cause)
 
 pub given_on : (start now after : PoolSeatView) (count more : ℕ) → now ≡ given_more start count → after ≡ given_more now more → after ≡ given_more start (count + more)

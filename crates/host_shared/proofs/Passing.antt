@@ -4,13 +4,13 @@ use Rattle.std.proofs.Common.{arith, sym, subst, inl, inr, ◌∙◌, get_or-set
 use Rattle.std.proofs.lemmas.Bool.{cases_eq}
 use Rattle.std.proofs.lemmas.List.{get_or_default, length-set}
 use Rattle.state_words.specs.SeatView.{Seated}
-use Rattle.host_shared.specs.Looks.{LooksAt, pages_but, freed_in, freed_in_all}
+use Rattle.host_shared.specs.Looks.{GrewByLooks, pages_but, freed_in, freed_in_all}
 use Rattle.host_shared.specs.Reclaiming.{IsReclaim, Passes}
 use Rattle.host_shared.proofs.Seats.{freed_set}
 
 -- one guest's seat looked at each of its pages once
 abbrev pub PassedOne : Seated → Seated → Type 0
-PassedOne s t = LooksAt (IsReclaim false) (pages_but None 0 s.words.pages) s.view t.view
+PassedOne s t = GrewByLooks (IsReclaim false) (pages_but None 0 s.words.pages) s.view t.view
 
 -- the pass over the guests below one
 pub record PassedBelow (guest : ℕ) (old new : List Seated) (freed : ℕ) : Type 0 where

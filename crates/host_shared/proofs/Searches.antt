@@ -8,23 +8,23 @@ use Rattle.std.proofs.lemmas.List.Concat.{flat_map-append}
 use Rattle.std.proofs.lemmas.List.Elements.{All-append}
 use Rattle.std.proofs.lemmas.List.Sums.{sum_by-append, sum_by-set}
 use Rattle.state_words.specs.SeatView.{SeatStep, Tried, Moved, SeatView, Seated}
-use Rattle.host_shared.specs.Looks.{Look, steps_of, LooksAt, is_page, pages_but, freed_by, freed_in}
+use Rattle.host_shared.specs.Looks.{Look, look_steps, GrewByLooks, is_page, pages_but, freed_by, freed_in}
 use Rattle.host_shared.specs.Reclaiming.{Reclaims, freed_of}
 use Rattle.host_shared.specs.Searching.{FindsNothing, tried_at, tried_in, tried_in_all, round_but, held_of, LooksIn, LooksRound, FoundNone, Searched}
 use Rattle.host_shared.specs.declared.reclaim.Outcome.{Outcome}
 use Rattle.host_shared.specs.declared.reclaim.Outcome.TheVariants.{Discarded, Preserved, Left, Busy}
 use Rattle.host_shared.proofs.Looking.{page_more, page_skipped, looks_none, looks_more, freed_more}
 
-joined : (IsKind : Look → Type 0) (ps qs : List ℕ) (v w x : SeatView) → LooksAt IsKind ps v w → LooksAt IsKind qs w x → LooksAt IsKind (ps ++ qs) v x
+joined : (IsKind : Look → Type 0) (ps qs : List ℕ) (v w x : SeatView) → GrewByLooks IsKind ps v w → GrewByLooks IsKind qs w x → GrewByLooks IsKind (ps ++ qs) v x
 joined IsKind ps qs v w x a b = record {
   looks = a.looks ++ b.looks;
-  steps = b.steps ∙ ap (λ (s : List SeatStep). s ++ flat_map steps_of b.looks) a.steps ∙ append_assoc v.steps (flat_map steps_of a.looks) (flat_map steps_of b.looks)
-      ∙ ap (λ (s : List SeatStep). v.steps ++ s) (sym (flat_map-append steps_of a.looks b.looks));
+  steps = b.steps ∙ ap (λ (s : List SeatStep). s ++ flat_map look_steps b.looks) a.steps ∙ append_assoc v.steps (flat_map look_steps a.looks) (flat_map look_steps b.looks)
+      ∙ ap (λ (s : List SeatStep). v.steps ++ s) (sym (flat_map-append look_steps a.looks b.looks));
   pages_are = map-append (λ (k : Look). k.page) a.looks b.looks ∙ ap (λ (q : List ℕ). q ++ map (λ (k : Look). k.page) b.looks) a.pages_are ∙ ap (λ (q : List ℕ). ps ++ q) b.pages_are;
   each = All-append IsKind a.looks b.looks a.each b.each;
 }
 
-tried_once : (l : Look) → sum_by tried_at (steps_of l) ≡ 1
+tried_once : (l : Look) → sum_by tried_at (look_steps l) ≡ 1
 tried_once l = at l.word.busy
   where
     at : (b : Bool) → sum_by tried_at (Tried l.page l.word ∷ (if b then [] else Moved l.page l.action ∷ [])) ≡ 1
@@ -34,12 +34,12 @@ tried_once l = at l.word.busy
 one_look : (outcome : Outcome) (page : ℕ) (v w : SeatView) (faults risen dry dried : ℕ) (one : Reclaims outcome page true v w faults risen) → FindsNothing one.look → dried ≡ dry + freed_of outcome →
     LooksIn (page ∷ []) v w dry dried 1
 one_look outcome page v w faults risen dry dried one nothing dries =
-    let looked : LooksAt FindsNothing (one.look.page ∷ []) v w = looks_more FindsNothing [] v v w one.look (looks_none FindsNothing v) one.steps nothing in
+    let looked : GrewByLooks FindsNothing (one.look.page ∷ []) v w = looks_more FindsNothing [] v v w one.look (looks_none FindsNothing v) one.steps nothing in
     let freed : freed_in w ≡ freed_in v + freed_of outcome = freed_more outcome page true v w faults risen one in
-    let tried : tried_in w ≡ tried_in v + sum_by tried_at (steps_of one.look) = ap (sum_by tried_at) one.steps ∙ sum_by-append tried_at v.steps (steps_of one.look) in
-    let once : sum_by tried_at (steps_of one.look) ≡ 1 = tried_once one.look in
+    let tried : tried_in w ≡ tried_in v + sum_by tried_at (look_steps one.look) = ap (sum_by tried_at) one.steps ∙ sum_by-append tried_at v.steps (look_steps one.look) in
+    let once : sum_by tried_at (look_steps one.look) ≡ 1 = tried_once one.look in
     record {
-      looked = subst (λ (p : ℕ). LooksAt FindsNothing (p ∷ []) v w) one.of_page looked;
+      looked = subst (λ (p : ℕ). GrewByLooks FindsNothing (p ∷ []) v w) one.of_page looked;
       dry_is = omega (arith, freed, dries);
       looks_are = omega (arith, tried, once);
     }

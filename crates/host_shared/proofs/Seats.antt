@@ -11,8 +11,8 @@ use Rattle.frame_pool.specs.Seats.{PoolId, PoolSeatView}
 use Rattle.host_shared.specs.Looks.{freed_in, freed_in_all}
 use Rattle.host_shared.specs.Reclaiming.{CanReclaim}
 
-pub words_of : Seated → WordsView
-words_of s = s.words
+pub bound_words : Seated → WordsView
+bound_words s = s.words
 
 module _ (words : List WordsView) (pool : PoolId) (seats : List Seated) (seat : PoolSeatView) (can : CanReclaim words pool seats seat) where
   pub seats_count : length seats ≡ length words

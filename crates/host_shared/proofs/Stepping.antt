@@ -20,11 +20,11 @@ use Rattle.state_words.specs.Accesses.{Leads, touched_word, touched_body, stored
 use Rattle.state_words.specs.Laws.AccessLaws.{Leads-same, Leads-ordered, Leads-touched, Leads-stored, Leads-change_taken}
 use Rattle.state_words.specs.Steps.{HasTried, FindsBusy, claimed_view, left_view}
 use Rattle.frame_pool.specs.Seats.{PoolId, PoolSeatView}
-use Rattle.host_shared.specs.Bodies.{BodyParts, lent_body, house_of}
+use Rattle.host_shared.specs.Bodies.{BodyParts, lent_body, body_house}
 use Rattle.host_shared.specs.Holding.{HeldState, IsHeldPage, IsTouched, TrapCause}
 use Rattle.host_shared.specs.Reclaiming.{CanReclaim}
 use Rattle.host_shared.specs.Searching.{SearchCause}
-use Rattle.host_shared.specs.PagerCalls.{IsCalled}
+use Rattle.host_shared.specs.PagerCalls.{PagerCalled}
 use Rattle.host_shared.specs.Touching.{TouchMakes, TouchCause}
 use Rattle.host_shared.specs.Binding.{StorageState, page_of_hold, held_page, value_in, is_touched, IsTied, IsStorage, seen_of, storage_view, StaysBound, LeavesHost, Uses, BoundStep, IsBoundTo, raised_at}
 use Rattle.host_shared.proofs.Seats.{words_housed}
@@ -80,7 +80,7 @@ pub sound_none : (s : StorageState) (seat : Seated) → IsStorage s → IsGuestS
 sound_none s seat is guest none = record { seat = guest; tied = tied_none seat none; sound = λ h e. never_none h e; few = is.few }
 
 tied_taken : (seat : Seated) (page : ℕ) (word : Fields) (parts : BodyParts) (h : HeldState) → seat.view.held ≡ Some (record { page = page; word = word; body = lent_body parts }) →
-    house_of parts ≡ seat.words.house → h ≡ record { page = page; word = word; parts = parts; touched = false } → IsTied seat (Some h)
+    body_house parts ≡ seat.words.house → h ≡ record { page = page; word = word; parts = parts; touched = false } → IsTied seat (Some h)
 tied_taken seat page word parts h there housed is = record {
   page = ap page_of_hold there ∙ ap (λ (q : HeldState). Some q.page) (sym is);
   leads = λ hold k e f.
@@ -89,11 +89,11 @@ tied_taken seat page word parts h there housed is = record {
       let held : h ≡ k = held_is h k f in
       subst (λ (q : HeldState). Leads hold.word hold.body q.word (lent_body q.parts)) (sym is ∙ held)
       (subst (λ (q : Hold). Leads q.word q.body word (lent_body parts)) same (Leads-same word (lent_body parts)));
-  housed = λ k f. subst (λ (q : HeldState). house_of q.parts ≡ seat.words.house) (sym is ∙ held_is h k f) housed;
+  housed = λ k f. subst (λ (q : HeldState). body_house q.parts ≡ seat.words.house) (sym is ∙ held_is h k f) housed;
 }
 
 pub sound_taken : (s : StorageState) (seat : Seated) (page : ℕ) (word : Fields) (parts : BodyParts) (h : HeldState) → IsStorage s → IsGuestSeat seat →
-    seat.view.held ≡ Some (record { page = page; word = word; body = lent_body parts }) → house_of parts ≡ seat.words.house →
+    seat.view.held ≡ Some (record { page = page; word = word; body = lent_body parts }) → body_house parts ≡ seat.words.house →
     h ≡ record { page = page; word = word; parts = parts; touched = false } → IsHeldPage h → IsStorage (with_seat s seat (Some h))
 sound_taken s seat page word parts h is guest there housed made held = record {
   seat = guest;
@@ -113,7 +113,7 @@ sound_held s hosts pool pager h k nf is held page of_pool goes sound few = recor
   tied = record {
     page = is.tied.page ∙ ap held_page held ∙ ap (λ (p : ℕ). Some p) (sym page);
     leads = λ hold x e f. subst (λ (q : HeldState). Leads hold.word hold.body q.word (lent_body q.parts)) (held_is k x f) (goes hold.word hold.body (is.tied.leads hold h e held));
-    housed = λ x f. subst (λ (q : HeldState). house_of q.parts ≡ s.seat.words.house) (held_is k x f) (ap (λ (q : PoolId). q.table) of_pool ∙ is.tied.housed h held);
+    housed = λ x f. subst (λ (q : HeldState). body_house q.parts ≡ s.seat.words.house) (held_is k x f) (ap (λ (q : PoolId). q.table) of_pool ∙ is.tied.housed h held);
   };
   sound = λ x f. subst IsHeldPage (held_is k x f) sound;
   few = few;
@@ -210,7 +210,7 @@ step_put s seat h page is held at inside words view =
 
 -- a touch, which may need the host
 stays_touched : (s : StorageState) (words : List WordsView) (pool : PoolId) (hosts : List Seated) (seat : PoolSeatView) (pager : FailurePlan) (held : Option HeldState) (nf : ℕ) →
-    CanReclaim words pool s.hosts s.pool → CanReclaim words pool hosts seat → IsCalled s.pager pager → StaysBound s (with_all s s.seat hosts seat pager held nf)
+    CanReclaim words pool s.hosts s.pool → CanReclaim words pool hosts seat → PagerCalled s.pager pager → StaysBound s (with_all s s.seat hosts seat pager held nf)
 stays_touched s words pool hosts seat pager held nf before after calls = record {
   guest = refl;
   words = refl;
@@ -220,7 +220,7 @@ stays_touched s words pool hosts seat pager held nf before after calls = record 
 }
 
 pub step_touch-ok : (s : StorageState) (words : List WordsView) (pool : PoolId) (hosts : List Seated) (seat : PoolSeatView) (pager : FailurePlan) (h k : HeldState) (page : ℕ) → s.held ≡ Some h →
-    held_page s.held ≡ Some page → CanReclaim words pool s.hosts s.pool → CanReclaim words pool hosts seat → IsCalled s.pager pager → s.pager.faults ≤ pager.faults → IsHeldPage k → IsTouched h k →
+    held_page s.held ≡ Some page → CanReclaim words pool s.hosts s.pool → CanReclaim words pool hosts seat → PagerCalled s.pager pager → s.pager.faults ≤ pager.faults → IsHeldPage k → IsTouched h k →
     is_discarded h.word ≡ false → BoundStep s (Touch page (Ok tt)) (with_all s s.seat hosts seat pager (Some k) s.no_frames)
 step_touch-ok s words pool hosts seat pager h k page held at before after calls falls is touched there = record {
   follows = at-call (λ q p. Follows (seen_of s.seat q s.pager.faults s.no_frames) (Touch p (Ok tt)) (seen_of s.seat (Some k) pager.faults s.no_frames)) s.held h page held at
@@ -237,7 +237,7 @@ uses_trapped s hosts seat pager held nf page Paging cause = refl
 uses_trapped s hosts seat pager held nf page (NoFrame looks) cause = (refl, cause)
 
 pub step_touch-trapped : (s : StorageState) (words : List WordsView) (pool : PoolId) (hosts : List Seated) (seat : PoolSeatView) (pager : FailurePlan) (h k : HeldState) (page nf : ℕ) (t : Trap) →
-    IsStorage s → s.held ≡ Some h → held_page s.held ≡ Some page → CanReclaim words pool s.hosts s.pool → CanReclaim words pool hosts seat → IsCalled s.pager pager → s.pager.faults ≤ pager.faults →
+    IsStorage s → s.held ≡ Some h → held_page s.held ≡ Some page → CanReclaim words pool s.hosts s.pool → CanReclaim words pool hosts seat → PagerCalled s.pager pager → s.pager.faults ≤ pager.faults →
     k ≡ h →
     TrapCause t h s.pager.faults pager.faults → SearchCause t s.guest page s.hosts hosts s.pool.dry seat.dry → nf ≡ raised_at (Err t) s.no_frames →
     BoundStep s (Touch page (Err t)) (with_all s s.seat hosts seat pager (Some k) nf)
@@ -334,7 +334,7 @@ sound_touched s hosts pool pager h k page nf (Err trap) is held at used same cou
 
 pub step_touch : (s : StorageState) (words : List WordsView) (pool : PoolId) (hosts : List Seated) (seat : PoolSeatView) (pager : FailurePlan) (h k : HeldState) (page nf : ℕ)
     (answer : Result Unit Trap) →
-    IsStorage s → s.held ≡ Some h → held_page s.held ≡ Some page → CanReclaim words pool s.hosts s.pool → CanReclaim words pool hosts seat → IsCalled s.pager pager → s.pager.faults ≤ pager.faults →
+    IsStorage s → s.held ≡ Some h → held_page s.held ≡ Some page → CanReclaim words pool s.hosts s.pool → CanReclaim words pool hosts seat → PagerCalled s.pager pager → s.pager.faults ≤ pager.faults →
     TouchMakes answer h k → TouchCause answer h s.pager.faults pager.faults s.guest page s.hosts hosts s.pool.dry seat.dry → nf ≡ raised_at answer s.no_frames →
     BoundStep s (Touch page answer) (with_all s s.seat hosts seat pager (Some k) nf)
 step_touch s words pool hosts seat pager h k page nf (Ok done) is held at before after calls falls (touched, sound, there) cause counts =

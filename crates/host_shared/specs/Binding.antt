@@ -16,11 +16,11 @@ use Rattle.state_words.specs.SeatView.{Hold, SeatStep, Looked, Tried, Left, Move
 use Rattle.state_words.specs.Accesses.{Leads}
 use Rattle.state_words.specs.Steps.{HasTried}
 use Rattle.frame_pool.specs.Seats.{PoolId, PoolSeatView}
-use Rattle.host_shared.specs.Bodies.{lent_body, house_of}
+use Rattle.host_shared.specs.Bodies.{lent_body, body_house}
 use Rattle.host_shared.specs.Holding.{HeldState, IsHeldPage}
 use Rattle.host_shared.specs.Reclaiming.{CanReclaim}
 use Rattle.host_shared.specs.Searching.{FoundNone}
-use Rattle.host_shared.specs.PagerCalls.{IsCalled}
+use Rattle.host_shared.specs.PagerCalls.{PagerCalled}
 
 -- the guest's number and its seat, a seat of the host at each guest's words, the seat at the pool, the pager's calls, the page
 -- that is held, and how often no frame was found
@@ -44,7 +44,7 @@ held_page held = option_map (λ (h : HeldState). h.page) held
 pub record IsTied (seat : Seated) (held : Option HeldState) : Type 0 where
   pub page : page_of_hold seat.view.held ≡ held_page held
   pub leads : (hold : Hold) (h : HeldState) → seat.view.held ≡ Some hold → held ≡ Some h → Leads hold.word hold.body h.word (lent_body h.parts)
-  pub housed : (h : HeldState) → held ≡ Some h → house_of h.parts ≡ seat.words.house
+  pub housed : (h : HeldState) → held ≡ Some h → body_house h.parts ≡ seat.words.house
 
 pub record IsStorage (s : StorageState) : Type 0 where
   pub seat : IsGuestSeat s.seat
@@ -113,7 +113,7 @@ pub record StaysBound (s t : StorageState) : Type 0 where
   pub words : t.seat.words ≡ s.seat.words
   pub hosts : map (λ h. h.words) t.hosts ≡ map (λ h. h.words) s.hosts
   pub pool : t.pool.pool ≡ s.pool.pool
-  pub pager : IsCalled s.pager t.pager
+  pub pager : PagerCalled s.pager t.pager
 
 -- the seats of the host, the pool's seat and the pager are as before
 pub record LeavesHost (s t : StorageState) : Type 0 where

@@ -17,8 +17,8 @@ abbrev pub lent_body : BodyParts → Body
 lent_body parts = record { frame = option_map (λ loan. loan.frame.bytes) parts.loan; block = parts.block }
 
 -- the pool that the frames of a body come from, by its table
-abbrev pub house_of : BodyParts → TableId
-house_of parts = parts.pool.table
+abbrev pub body_house : BodyParts → TableId
+body_house parts = parts.pool.table
 
 -- a loan of the pool of this table
 abbrev pub IsOfHouse : TableId → LoanView → Type 0
@@ -28,4 +28,4 @@ IsOfHouse house loan = loan.pool.table ≡ house
 pub record IsPageBody (parts : BodyParts) : Type 0 where
   pub block : length parts.block ≡ PAGE
   pub bytes : IfSome parts.loan (λ loan. length loan.frame.bytes ≡ PAGE)
-  pub housed : IfSome parts.loan (IsOfHouse (house_of parts))
+  pub housed : IfSome parts.loan (IsOfHouse (body_house parts))

@@ -1,7 +1,7 @@
 -- What stands where looks at pages come to a frame, to a failed put, or to nothing, and what they leave of a storage's supply.
 use Rattle.std.specs.Prelude.{◌≡◌, ℕ, ◌≤◌}
 use Rattle.frame_pool.specs.Seats.{LoanView}
-use Rattle.host_shared.specs.PagerCalls.{IsCalled}
+use Rattle.host_shared.specs.PagerCalls.{PagerCalled}
 use Rattle.host_shared.specs.declared.search.Supply.{Supply}
 use Rattle.host_shared.specs.declared.search.Found.{Found}
 use Rattle.host_shared.specs.declared.search.Found.TheVariants.{Frame, Paging, Nothing}
@@ -24,5 +24,5 @@ WhereNothing (Nothing looks) P = P looks
 -- the seat stays at its pool, and the pager was called some number of times
 pub record KeepsSupply (before after : Supply) : Type 0 where
   pub pool : after.seat.pool ≡ before.seat.pool
-  pub calls : IsCalled before.pager after.pager
+  pub calls : PagerCalled before.pager after.pager
   pub faults : before.pager.faults ≤ after.pager.faults

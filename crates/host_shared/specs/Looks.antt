@@ -12,13 +12,13 @@ pub record Look : Type 0 where
   pub word : Fields
   pub action : Option Move
 
-abbrev pub steps_of : Look → List SeatStep
-steps_of l = Tried l.page l.word ∷ (if l.word.busy then [] else Moved l.page l.action ∷ [])
+abbrev pub look_steps : Look → List SeatStep
+look_steps l = Tried l.page l.word ∷ (if l.word.busy then [] else Moved l.page l.action ∷ [])
 
 -- the record grew by looks of this kind, one at each of these pages in this order
-pub record LooksAt (IsKind : Look → Type 0) (pages : List ℕ) (v w : SeatView) : Type 0 where
+pub record GrewByLooks (IsKind : Look → Type 0) (pages : List ℕ) (v w : SeatView) : Type 0 where
   pub looks : List Look
-  pub steps : w.steps ≡ v.steps ++ flat_map steps_of looks
+  pub steps : w.steps ≡ v.steps ++ flat_map look_steps looks
   pub pages_are : map (λ l. l.page) looks ≡ pages
   pub each : All IsKind looks
 

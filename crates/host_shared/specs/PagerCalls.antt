@@ -10,8 +10,8 @@ after_calls zero plan = plan
 after_calls (suc n) plan = after_next (after_calls n plan)
 
 -- the pager was called some number of times
-abbrev pub IsCalled : FailurePlan → FailurePlan → Type 0
-IsCalled before after = (calls : ℕ) × (after ≡ after_calls calls before)
+abbrev pub PagerCalled : FailurePlan → FailurePlan → Type 0
+PagerCalled before after = (calls : ℕ) × (after ≡ after_calls calls before)
 
 -- one get, which was good or failed
 module _ {P B : Type 0} (step : P → PagerCall B → P → Type 0) where

@@ -10,7 +10,7 @@ use Rattle.essa_state.specs.StateWord.{is_resident, number_of}
 use Rattle.essa_state.specs.Moves.{reclaiming}
 use Rattle.state_words.specs.SeatView.{SeatView, WordsView, Seated}
 use Rattle.frame_pool.specs.Seats.{PoolId, PoolSeatView}
-use Rattle.host_shared.specs.Looks.{Look, steps_of, LooksAt, pages_but, freed_in_all}
+use Rattle.host_shared.specs.Looks.{Look, look_steps, GrewByLooks, pages_but, freed_in_all}
 use Rattle.host_shared.specs.declared.reclaim.Outcome.{Outcome}
 use Rattle.host_shared.specs.declared.reclaim.Outcome.TheVariants.{Discarded, Preserved, Aged, Left, Busy, Paging}
 
@@ -38,7 +38,7 @@ HasCause Paging urgent l faults risen = IsToMove urgent l.word Preserve × (l.ac
 pub record Reclaims (outcome : Outcome) (page : ℕ) (urgent : Bool) (v w : SeatView) (faults risen : ℕ) : Type 0 where
   pub look : Look
   pub of_page : look.page ≡ page
-  pub steps : w.steps ≡ v.steps ++ steps_of look
+  pub steps : w.steps ≡ v.steps ++ look_steps look
   pub cause : HasCause outcome urgent look faults risen
 
 -- a look by some reclaim
@@ -79,5 +79,5 @@ pub record CanReclaim (words : List WordsView) (pool : PoolId) (seats : List Sea
 -- each guest's seat looked at each of the guest's pages once, in their order, and so many frames were freed
 pub record Passes (old new : List Seated) (freed : ℕ) : Type 0 where
   pub each : (guest : ℕ) (d : Seated) → guest < length old →
-      LooksAt (IsReclaim false) (pages_but None 0 (slice_index_or old guest d).words.pages) (slice_index_or old guest d).view (slice_index_or new guest d).view
+      GrewByLooks (IsReclaim false) (pages_but None 0 (slice_index_or old guest d).words.pages) (slice_index_or old guest d).view (slice_index_or new guest d).view
   pub freed_is : freed + freed_in_all old ≡ freed_in_all new

@@ -5,7 +5,7 @@ use Rattle.essa_state.specs.StateWord.{is_resident}
 use Rattle.cmm_storage.specs.declared.storage.Trap.{Trap}
 use Rattle.cmm_storage.specs.declared.storage.Trap.TheVariants.{Discarded, Paging, NoFrame}
 use Rattle.state_words.specs.SeatView.{SeatStep, Looked, Tried, Left, Moved, SeatView, Seated}
-use Rattle.host_shared.specs.Looks.{Look, LooksAt, pages_but, freed_by, freed_in, freed_in_all}
+use Rattle.host_shared.specs.Looks.{Look, GrewByLooks, pages_but, freed_by, freed_in, freed_in_all}
 
 -- the look found the page busy or not resident, or it freed its frame
 abbrev pub FindsNothing : Look → Type 0
@@ -34,13 +34,13 @@ held_of guest page other = if other == guest then Some page else None
 
 -- looks at these pages found nothing. The takes after them found the pool dry as often as frames were freed
 pub record LooksIn (pages : List ℕ) (v w : SeatView) (dry dried looks : ℕ) : Type 0 where
-  pub looked : LooksAt FindsNothing pages v w
+  pub looked : GrewByLooks FindsNothing pages v w
   pub dry_is : dried + freed_in v ≡ dry + freed_in w
   pub looks_are : looks + tried_in v ≡ tried_in w
 
 -- the seat looked once at each page of its guest, but for the held one, and found nothing
 abbrev pub LooksRound : Option ℕ → Seated → Seated → Type 0
-LooksRound skip s t = (start : ℕ) × (start ≤ s.words.pages) × LooksAt FindsNothing (round_but skip start s.words.pages) s.view t.view
+LooksRound skip s t = (start : ℕ) × (start ≤ s.words.pages) × GrewByLooks FindsNothing (round_but skip start s.words.pages) s.view t.view
 
 -- a search that found no frame: each page of each guest but the held one was looked at once; the pool's seat found it dry once,
 -- and once again after each frame that was freed; and these are so many looks

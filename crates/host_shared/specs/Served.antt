@@ -8,8 +8,8 @@ use Rattle.host_shared.specs.declared.bound.Bound.{Bound}
 abbrev pub storage_of : Bound → StorageState
 storage_of b = b.storage.now
 
-abbrev pub words_of : Bound → List WordsView
-words_of b = b.words.now
+abbrev pub bound_words : Bound → List WordsView
+bound_words b = b.words.now
 
-abbrev pub pool_of : Bound → PoolId
-pool_of b = b.pool.now
+abbrev pub bound_pool : Bound → PoolId
+bound_pool b = b.pool.now

@@ -7,7 +7,7 @@ ghost use Rattle.cmm_pager.specs.PagerCall.{Put};
 ghost use Rattle.essa_state.specs.PageBody.{frame_bytes, moved_body};
 ghost use Rattle.state_words.specs.Accesses.{touched_body, stored_body};
 ghost use Rattle.host_shared.specs.PagerCalls.{GetsOnce};
-ghost use Rattle.host_shared.specs.Bodies.{IsOfHouse, IsPageBody, lent_body, house_of};
+ghost use Rattle.host_shared.specs.Bodies.{IsOfHouse, IsPageBody, lent_body, body_house};
 ghost use Rattle.cmm_types.specs.declared.page.Content.TheVariants.{Preserved, Zero};
 
 use cmm_io::Failed;
@@ -36,11 +36,11 @@ impl Model for PageBody {
 }
 
 impl Body for PageBody {
-    ghost use Rattle.host_shared.specs.Bodies.{lent_body, house_of};
+    ghost use Rattle.host_shared.specs.Bodies.{lent_body, body_house};
 
     ghost body = { lent_body };
 
-    ghost house = { house_of };
+    ghost house = { body_house };
 
     fn lose(self) {
         let PageBody {
@@ -79,7 +79,7 @@ impl PageBody {
         ensures body { lent_body self.new ≡ moved_body Discard (lent_body self.old) }
         ensures pool { self.new.pool ≡ self.old.pool }
         ensures loan { result ≡ self.old.loan }
-        ensures housed { IfSome result (IsOfHouse (house_of self.old)) }
+        ensures housed { IfSome result (IsOfHouse (body_house self.old)) }
     {
         self.loan.take()
     }
@@ -93,7 +93,7 @@ impl PageBody {
         ensures pool { self.new.pool ≡ self.old.pool }
         ensures faults { P.faults pager.old ≤ P.faults pager.new }
         ensures body { IfOk result (λ loan. lent_body self.new ≡ moved_body Preserve (lent_body self.old)) }
-        ensures housed { IfOk result (IsOfHouse (house_of self.old)) }
+        ensures housed { IfOk result (IsOfHouse (body_house self.old)) }
         ensures put { IfOk result (λ loan. P.step pager.old (Put self.old.block (frame_bytes (lent_body self.old)) (Ok tt) self.new.block) pager.new) }
         ensures frame { IfErr result (λ failed. (lent_body self.new).frame ≡ (lent_body self.old).frame) }
         ensures risen { IfErr result (λ failed. HasRisen (P.faults pager.old) (P.faults pager.new)) }
@@ -118,13 +118,13 @@ impl PageBody {
         mut loan: Loan,
         pager: &mut P,
     ) -> Result<(), Loan>
-        requires housed { IsOfHouse (house_of self.old) loan }
+        requires housed { IsOfHouse (body_house self.old) loan }
         ensures pool { self.new.pool ≡ self.old.pool }
         ensures faults { P.faults pager.old ≤ P.faults pager.new }
         ensures body { IfOk result (λ u. lent_body self.new ≡ touched_body Preserved (lent_body self.old)) }
         ensures whole { IfOk result (λ u. IsPageBody self.new) }
         ensures same { IfErr result (λ back. self.new ≡ self.old) }
-        ensures back { IfErr result (IsOfHouse (house_of self.old)) }
+        ensures back { IfErr result (IsOfHouse (body_house self.old)) }
         ensures risen { IfErr result (λ back. HasRisen (P.faults pager.old) (P.faults pager.new)) }
         ensures gets { GetsOnce P.step pager.old pager.new }
     {
@@ -139,7 +139,7 @@ impl PageBody {
 
     /// Takes a frame, and fills it with zeros.
     pub(crate) fn fill(&mut self, mut loan: Loan)
-        requires housed { IsOfHouse (house_of self.old) loan }
+        requires housed { IsOfHouse (body_house self.old) loan }
         ensures pool { self.new.pool ≡ self.old.pool }
         ensures body { lent_body self.new ≡ touched_body Zero (lent_body self.old) }
         ensures whole { IsPageBody self.new }

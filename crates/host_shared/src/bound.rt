@@ -22,7 +22,7 @@ impl<'a> Bound<'a> {
     ghost use Rattle.std.specs.Prelude.{◌≡◌, ◌<◌, ◌≤◌, None};
     ghost use Rattle.state_words.specs.Steps.{looked_view};
     ghost use Rattle.host_shared.specs.Binding.{storage_view};
-    ghost use Rattle.host_shared.specs.Served.{storage_of, words_of, pool_of};
+    ghost use Rattle.host_shared.specs.Served.{storage_of, bound_words, bound_pool};
 
     /// The word of a page, whoever holds it, which counts at least as many discards as the guest knows of. No page is
     /// held.
@@ -32,8 +32,8 @@ impl<'a> Bound<'a> {
         ensures looked { storage_of self.new ≡ record (storage_of self.old) { seat = record (storage_of self.old).seat { view = looked_view (storage_of self.old).seat.view page result } } }
         ensures counted { ((storage_view (storage_of self.old)).values page).count ≤ result.count }
         ensures same { self.new.storage.ghost_name ≡ self.old.storage.ghost_name }
-        ensures words { words_of self.new ≡ words_of self.old }
-        ensures pool { pool_of self.new ≡ pool_of self.old }
+        ensures words { bound_words self.new ≡ bound_words self.old }
+        ensures pool { bound_pool self.new ≡ bound_pool self.old }
     {
         self.storage.look(self.words, self.pool, page)
     }
@@ -42,11 +42,11 @@ impl<'a> Bound<'a> {
 impl<'a> Storage for Bound<'a> {
     ghost use Rattle.std.specs.Prelude.{◌≡◌};
     ghost use Rattle.host_shared.specs.Binding.{BoundStep, storage_view};
-    ghost use Rattle.host_shared.specs.Served.{storage_of, words_of, pool_of};
+    ghost use Rattle.host_shared.specs.Served.{storage_of, bound_words, bound_pool};
 
     ghost view = { λ b. storage_view (storage_of b) };
 
-    ghost step = { λ b call c. BoundStep (storage_of b) call (storage_of c) × (c.storage.ghost_name ≡ b.storage.ghost_name) × (words_of c ≡ words_of b) × (pool_of c ≡ pool_of b) };
+    ghost step = { λ b call c. BoundStep (storage_of b) call (storage_of c) × (c.storage.ghost_name ≡ b.storage.ghost_name) × (bound_words c ≡ bound_words b) × (bound_pool c ≡ bound_pool b) };
 
     ghost meets = { λ b call c s. s.0.follows };
 

@@ -6,8 +6,8 @@ ghost use Rattle.essa_state.specs.StateWord.{is_resident, is_preserved, is_zero,
 ghost use Rattle.essa_state.specs.Orders.{after_order, order_done};
 ghost use Rattle.essa_state.specs.PageBody.{FitsWord, frame_bytes};
 ghost use Rattle.state_words.specs.Accesses.{touched_word, stored_word, stored_body, change_taken};
-ghost use Rattle.host_shared.specs.Bodies.{IsOfHouse, lent_body, house_of};
-ghost use Rattle.host_shared.specs.PagerCalls.{IsCalled};
+ghost use Rattle.host_shared.specs.Bodies.{IsOfHouse, lent_body, body_house};
+ghost use Rattle.host_shared.specs.PagerCalls.{PagerCalled};
 ghost use Rattle.host_shared.specs.Holding.{HeldState, IsHeldPage, IsTouched};
 
 use crate::body::PageBody;
@@ -124,7 +124,7 @@ impl HeldPage {
     /// A page without contents gets a frame of zeros.
     pub(crate) fn fill(&mut self, loan: Loan)
         requires zero { is_zero self.old.word.content ≡ true }
-        requires housed { IsOfHouse (house_of self.old.parts) loan }
+        requires housed { IsOfHouse (body_house self.old.parts) loan }
         ensures touched { IsTouched self.old self.new }
         ensures sound { IsHeldPage self.new }
     {
@@ -137,12 +137,12 @@ impl HeldPage {
     #[tactic(auto, using(crate::proofs::Supplies::gets_called))]
     pub(crate) fn bring(&mut self, loan: Loan, pager: &mut MemPager) -> Result<(), Loan>
         requires preserved { is_preserved self.old.word.content ≡ true }
-        requires housed { IsOfHouse (house_of self.old.parts) loan }
-        ensures calls { IsCalled pager.old pager.new }
+        requires housed { IsOfHouse (body_house self.old.parts) loan }
+        ensures calls { PagerCalled pager.old pager.new }
         ensures faults { pager.old.faults ≤ pager.new.faults }
         ensures touched { IfOk result (λ u. IsTouched self.old self.new × IsHeldPage self.new) }
         ensures same { IfErr result (λ back. self.new ≡ self.old) }
-        ensures back { IfErr result (IsOfHouse (house_of self.old.parts)) }
+        ensures back { IfErr result (IsOfHouse (body_house self.old.parts)) }
         ensures risen { IfErr result (λ back. HasRisen pager.old.faults pager.new.faults) }
     {
         match self.body.bring(loan, pager) {

@@ -4,8 +4,8 @@ ghost use Rattle.std.specs.List.{sum_by};
 ghost use Rattle.essa_state.specs.PageBody.{FitsWord};
 ghost use Rattle.state_words.specs.SeatView.{SeatView, IsHostSeat};
 ghost use Rattle.state_words.specs.Steps.{claimed_view};
-ghost use Rattle.host_shared.specs.Bodies.{lent_body, house_of};
-ghost use Rattle.host_shared.specs.Looks.{LooksAt, pages_but, freed_in};
+ghost use Rattle.host_shared.specs.Bodies.{lent_body, body_house};
+ghost use Rattle.host_shared.specs.Looks.{GrewByLooks, pages_but, freed_in};
 ghost use Rattle.host_shared.specs.Reclaiming.{Reclaims, IsReclaim, PutsOnce, CanReclaim, Passes, freed_of, given_more, is_spared};
 
 use crate::body::PageBody;
@@ -56,7 +56,7 @@ fn reclaim_held<P: Pager<Block = MemBlock>>(
     requires held { seat.old.view.held ≡ Some (record { page = page; word = word; body = lent_body body }) }
     requires free { word.busy ≡ false }
     requires fits { FitsWord word (lent_body body) }
-    requires housed { house_of body ≡ words.now.house }
+    requires housed { body_house body ≡ words.now.house }
     requires pool { pool_seat.old.pool ≡ pool.now }
     requires house { words.now.house ≡ pool.now.table }
     ensures words { seat.new.words ≡ seat.old.words }
@@ -158,7 +158,7 @@ fn reclaim_guest<P: Pager<Block = MemBlock>, G: Gate>(
     ensures words { seat.new.words ≡ seat.old.words }
     ensures none_held { seat.new.view.held ≡ None }
     ensures faults { P.faults pager.old ≤ P.faults pager.new }
-    ensures looks { LooksAt (IsReclaim false) (pages_but None 0 words.now.pages) seat.old.view seat.new.view }
+    ensures looks { GrewByLooks (IsReclaim false) (pages_but None 0 words.now.pages) seat.old.view seat.new.view }
     ensures freed { result + freed_in seat.old.view ≡ freed_in seat.new.view }
     ensures few { result ≤ words.now.pages }
     ensures given { pool_seat.new ≡ given_more pool_seat.old result }

@@ -4,7 +4,7 @@ ghost use Rattle.std.specs.List.{sum_by};
 ghost use Rattle.cmm_io.specs.Faults.{HasRisen};
 ghost use Rattle.essa_state.specs.StateWord.{is_resident, is_preserved, is_discarded};
 ghost use Rattle.cmm_storage.specs.declared.storage.Trap.TheVariants.{Paging};
-ghost use Rattle.host_shared.specs.Bodies.{IsOfHouse, house_of};
+ghost use Rattle.host_shared.specs.Bodies.{IsOfHouse, body_house};
 ghost use Rattle.host_shared.specs.Touching.{TouchMakes, TouchCause};
 ghost use Rattle.state_words.specs.SeatView.{SeatView, WordsView, Seated};
 ghost use Rattle.host_shared.specs.Looks.{pages_but, is_page};
@@ -418,7 +418,7 @@ impl Supply {
     #[tactic(auto, using(crate::proofs::Supplies::keeps_called))]
     fn get(&mut self, held: &mut HeldPage, loan: Loan, pool: &Pool) -> Result<(), Trap>
         requires pool { self.old.seat.pool ≡ pool.now }
-        requires house { house_of held.old.parts ≡ pool.now.table }
+        requires house { body_house held.old.parts ≡ pool.now.table }
         requires loan { IsOfHouse pool.now.table loan }
         requires there { is_discarded held.old.word ≡ false }
         requires preserved { is_preserved held.old.word.content ≡ true }
@@ -440,7 +440,7 @@ impl Supply {
     #[tactic(auto, using(crate::proofs::Supplies::keeps_none))]
     fn bring(&mut self, held: &mut HeldPage, loan: Loan, pool: &Pool) -> Result<(), Trap>
         requires pool { self.old.seat.pool ≡ pool.now }
-        requires house { house_of held.old.parts ≡ pool.now.table }
+        requires house { body_house held.old.parts ≡ pool.now.table }
         requires loan { IsOfHouse pool.now.table loan }
         requires there { is_discarded held.old.word ≡ false }
         requires absent { is_resident held.old.word.content ≡ false }
@@ -471,7 +471,7 @@ impl Supply {
     ) -> Result<(), Trap>
         requires can { CanReclaim words.now pool.now hosts.old self.old.seat }
         requires few { sum_by (λ w. w.pages) words.now < 2 ^ 32 }
-        requires house { house_of held.old.parts ≡ pool.now.table }
+        requires house { body_house held.old.parts ≡ pool.now.table }
         ensures can { CanReclaim words.now pool.now hosts.new self.new.seat }
         ensures keeps { KeepsSupply self.old self.new }
         ensures makes { TouchMakes result held.old held.new }

@@ -7,7 +7,7 @@ ghost use Rattle.essa_state.specs.StateWord.{is_unused};
 ghost use Rattle.state_words.specs.SeatView.{IsGuestSeat};
 ghost use Rattle.state_words.specs.Steps.{looked_view};
 ghost use Rattle.host_shared.specs.Binding.{IsBoundTo, BoundStep, storage_view, held_page, raised_at};
-ghost use Rattle.host_shared.specs.Served.{storage_of, words_of, pool_of};
+ghost use Rattle.host_shared.specs.Served.{storage_of, bound_words, bound_pool};
 
 use crate::body::PageBody;
 use crate::bound::Bound;
@@ -126,8 +126,8 @@ impl WordStorage {
         requires { IsBoundTo words.now pool.now self.old }
         ensures same { result.storage.ghost_name ≡ self.entry.ghost_name }
         ensures storage { storage_of result ≡ self.old }
-        ensures words { words_of result ≡ words.now }
-        ensures pool { pool_of result ≡ pool.now }
+        ensures words { bound_words result ≡ words.now }
+        ensures pool { bound_pool result ≡ pool.now }
     {
         Bound {
             storage: self,

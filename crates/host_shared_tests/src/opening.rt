@@ -4,7 +4,7 @@ ghost use Rattle.cmm_types.specs.declared.plan.TheConstants.{MAX_FRAMES};
 ghost use Rattle.frame_pool.specs.Seats.{frame_count};
 ghost use Rattle.state_words.specs.WordsRule.{FitsStart};
 ghost use Rattle.state_words.specs.SeatView.{IsGuestSeat};
-ghost use Rattle.host_shared.specs.Bodies.{lent_body, house_of};
+ghost use Rattle.host_shared.specs.Bodies.{lent_body, body_house};
 ghost use Rattle.host_shared.specs.Reclaiming.{CanReclaim};
 ghost use Rattle.host_shared_tests.specs.Hosts.{IsHosted};
 
@@ -64,7 +64,7 @@ pub fn bodies_of(
     requires { seat.old.pool ≡ pool.now }
     ensures same { seat.new ≡ seat.old }
     ensures count { IfOk result (λ bodies. length bodies.items ≡ count) }
-    ensures start { IfOk result (λ bodies. All (FitsStart lent_body house_of pool.now.table) bodies.items) }
+    ensures start { IfOk result (λ bodies. All (FitsStart lent_body body_house pool.now.table) bodies.items) }
 {
     let mut bodies = Vec::new(alloc);
     for _ in 0..count {
@@ -166,7 +166,7 @@ pub fn open(alloc: Global, frames: u32, pages: u32, fails: &[u32]) -> Result<Hos
 /// Gives the frame of a body, if it has one, back to the pool. Answers how many that were.
 fn give_back(pool: &Pool, seat: &mut PoolSeat, mut body: PageBody) -> u32
     requires seat { seat.old.pool ≡ pool.now }
-    requires house { house_of body ≡ pool.now.table }
+    requires house { body_house body ≡ pool.now.table }
     ensures pool { seat.new.pool ≡ seat.old.pool }
     ensures few { result ≤ 1 }
 {
@@ -182,7 +182,7 @@ fn give_back(pool: &Pool, seat: &mut PoolSeat, mut body: PageBody) -> u32
 fn give_all(pool: &Pool, seat: &mut PoolSeat, mut bodies: Vec<PageBody>) -> u32
     requires seat { seat.old.pool ≡ pool.now }
     requires few { length bodies.items < 2 ^ 32 }
-    requires house { All (λ b. house_of b ≡ pool.now.table) bodies.items }
+    requires house { All (λ b. body_house b ≡ pool.now.table) bodies.items }
     ensures pool { seat.new.pool ≡ seat.old.pool }
 {
     let mut lent = 0;

@@ -2,7 +2,7 @@
 ghost use Rattle.std.specs.Prelude.{◌≡◌, ◌<◌, ◌≤◌, ◌^◌, None};
 ghost use Rattle.std.specs.List.{sum_by};
 ghost use Rattle.host_shared.specs.Binding.{IsBoundTo};
-ghost use Rattle.host_shared.specs.Served.{storage_of, words_of, pool_of};
+ghost use Rattle.host_shared.specs.Served.{storage_of, bound_words, bound_pool};
 ghost use Rattle.host_shared.specs.Reclaiming.{CanReclaim};
 
 use cmm_pager::MemPager;
@@ -40,8 +40,8 @@ pub fn write(bound: &mut Bound<'_>, page: u32, bytes: [u8; 4], leave: Order) -> 
     ensures none_held { (storage_of bound.new).held ≡ None }
     ensures seat { (storage_of bound.new).seat.words ≡ (storage_of bound.old).seat.words }
     ensures same { bound.new.storage.ghost_name ≡ bound.old.storage.ghost_name }
-    ensures words { words_of bound.new ≡ words_of bound.old }
-    ensures pool { pool_of bound.new ≡ pool_of bound.old }
+    ensures words { bound_words bound.new ≡ bound_words bound.old }
+    ensures pool { bound_pool bound.new ≡ bound_pool bound.old }
 {
     if bound.take(page).is_err() {
         return Seen::Busy;
@@ -69,8 +69,8 @@ pub fn read(bound: &mut Bound<'_>, page: u32) -> Seen
     ensures none_held { (storage_of bound.new).held ≡ None }
     ensures seat { (storage_of bound.new).seat.words ≡ (storage_of bound.old).seat.words }
     ensures same { bound.new.storage.ghost_name ≡ bound.old.storage.ghost_name }
-    ensures words { words_of bound.new ≡ words_of bound.old }
-    ensures pool { pool_of bound.new ≡ pool_of bound.old }
+    ensures words { bound_words bound.new ≡ bound_words bound.old }
+    ensures pool { bound_pool bound.new ≡ bound_pool bound.old }
 {
     if bound.take(page).is_err() {
         return Seen::Busy;

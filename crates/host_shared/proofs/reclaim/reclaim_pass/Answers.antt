@@ -4,7 +4,7 @@ use Rattle.std.proofs.Common.{rules, arith, ap, sym, subst, ◌∙◌}
 use Rattle.std.proofs.lemmas.List.Sums.{sum_by_more}
 use Rattle.state_words.specs.SeatView.{WordsView, Seated}
 use Rattle.frame_pool.specs.Seats.{PoolSeatView}
-use Rattle.host_shared.specs.Looks.{LooksAt, pages_but, freed_in}
+use Rattle.host_shared.specs.Looks.{GrewByLooks, pages_but, freed_in}
 use Rattle.host_shared.specs.Reclaiming.{IsReclaim, given_more}
 use Rattle.host_shared.proofs.Looking.{given_on}
 use Rattle.host_shared.proofs.Seats.{seats_count, seat_words, can_set}
@@ -22,8 +22,8 @@ loop-guest-preserved g c =
     let is : s ≡ slice_index_or c.loop-guest.seats guest s = c.index-seats-guest.is in
     let are : w ≡ slice_index_or c.args.words.now guest w = c.index-words-guest.is in
     let same : s.words ≡ w = ap (λ (q : Seated). q.words) is ∙ seat_words c.args.words.now c.args.pool.now c.loop-guest.seats c.loop-guest.pool_seat now.0 guest s w inside ∙ sym are in
-    let looked : LooksAt (IsReclaim false) (pages_but None 0 w.pages) s.view t.view = search rules in
-    let looks : PassedOne s t = subst (λ (q : WordsView). LooksAt (IsReclaim false) (pages_but None 0 q.pages) s.view t.view) (sym same) looked in
+    let looked : GrewByLooks (IsReclaim false) (pages_but None 0 w.pages) s.view t.view = search rules in
+    let looks : PassedOne s t = subst (λ (q : WordsView). GrewByLooks (IsReclaim false) (pages_but None 0 q.pages) s.view t.view) (sym same) looked in
     let kept : t.words ≡ s.words = search rules in
     let idle : t.view.held ≡ None = search rules in
     let freed : c.reclaim_guest-freed.result + freed_in s.view ≡ freed_in t.view = search rules in

@@ -2,7 +2,7 @@ use Rattle.std.specs.Prelude.{◌≡◌, List, [], ◌∷◌, ◌++◌, All}
 use Rattle.std.proofs.Common.{rules, arith, ap, sym, subst, ◌∙◌}
 use Rattle.atomic_table.specs.Seated.{TableId}
 use Rattle.state_words.specs.SeatView.{WordsView}
-use Rattle.host_shared.specs.Bodies.{BodyParts, house_of}
+use Rattle.host_shared.specs.Bodies.{BodyParts, body_house}
 use Rattle.host_shared_tests.proofs.opening.close.Goals as goal
 
 pub give_all-lent-requires-clause-house : goal.give_all-lent-requires-clause-house
@@ -15,5 +15,5 @@ give_all-lent-requires-clause-house c =
     let house : c.in-Some.table.house ≡ c.args.hosted.pool.table = ap (λ (v : WordsView). v.house) table ∙ housed 0 w (omega arith) in
     let before : c.in_ok-home.home.items ≡ [] = search rules in
     let items : c.close-busy.new.into.items ≡ back.got = back.items ∙ ap (λ (bs : List BodyParts). bs ++ back.got) before in
-    subst (All (λ (b : BodyParts). house_of b ≡ c.args.hosted.pool.table)) (sym items)
-    (subst (λ (h : TableId). All (λ (b : BodyParts). house_of b ≡ h) back.got) house back.housed)
+    subst (All (λ (b : BodyParts). body_house b ≡ c.args.hosted.pool.table)) (sym items)
+    (subst (λ (h : TableId). All (λ (b : BodyParts). body_house b ≡ h) back.got) house back.housed)

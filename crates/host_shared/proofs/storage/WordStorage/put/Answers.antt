@@ -5,7 +5,7 @@ use Rattle.essa_state.specs.declared.fields.Fields.{Fields}
 use Rattle.essa_state.specs.PageBody.{actual}
 use Rattle.state_words.specs.SeatView.{SeatView, Seated, WordsView}
 use Rattle.state_words.specs.Steps.{left_view}
-use Rattle.host_shared.specs.Bodies.{BodyParts, lent_body, house_of}
+use Rattle.host_shared.specs.Bodies.{BodyParts, lent_body, body_house}
 use Rattle.host_shared.specs.Holding.{HeldState}
 use Rattle.host_shared.specs.Binding.{StorageState, IsStorage, held_page, BoundStep, IsBoundTo}
 use Rattle.host_shared.specs.contracts.storage.WordStorage.{the_view}
@@ -41,7 +41,7 @@ release-requires-clause-housed c =
     let s : StorageState = the_view c.self.inside in
     let held : s.held ≡ Some c.in-Some.held = search rules in
     let b : IsBoundTo c.args.words.now c.args.pool.now s = subst (IsBoundTo c.args.words.now c.args.pool.now) (sym c.self.view_is) c.requires.bound in
-    ap (λ (p : BodyParts). house_of p) c.into_parts-word.ensures.parts ∙ c.self.invariant.tied.housed c.in-Some.held held
+    ap (λ (p : BodyParts). body_house p) c.into_parts-word.ensures.parts ∙ c.self.invariant.tied.housed c.in-Some.held held
     ∙ ap (λ (w : WordsView). w.house) (own_words c.args.words.now c.args.pool.now s c.own.result.now b c.own.ensures)
 
 pub returns-clause-step : goal.returns-clause-step
