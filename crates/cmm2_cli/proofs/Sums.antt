@@ -61,7 +61,8 @@ sums_none w = record { entries_are = refl; discards_are = refl; faults_are = ref
 pub sums_next : (w : WorldState) (guest entries discards faults : ℕ) → AreSums w guest entries discards faults → IsFew w guest → discards_of w guest ≤ MAX_GUEST_PAGES * 2 ^ 32
     → AreSums w (guest + 1) (entries + length (guest_at w guest).journal) (discards + discards_of w guest) (faults + (guest_at w guest).parts.faults)
 sums_next w guest entries discards faults sums its most = record {
-  entries_are = ap (λ n. n + length (guest_at w guest).journal) sums.entries_are ∙ sym (sum_by-map-range_with_len_more (λ (r : GuestReport). length r.journal) (guest_report w) 0 guest guest (omega arith));
+  entries_are = ap (λ n. n + length (guest_at w guest).journal) sums.entries_are
+      ∙ sym (sum_by-map-range_with_len_more (λ (r : GuestReport). length r.journal) (guest_report w) 0 guest guest (omega arith));
   discards_are = ap (λ n. n + discards_of w guest) sums.discards_are ∙ sym (sum_by-map-range_with_len_more (λ (r : GuestReport). r.discards) (guest_report w) 0 guest guest (omega arith));
   faults_are = ap (λ n. n + (guest_at w guest).parts.faults) sums.faults_are ∙ sym (sum_by-map-range_with_len_more (λ (r : GuestReport). r.faults) (guest_report w) 0 guest guest (omega arith));
   few_entries = omega (arith, sums.few_entries, its.entries);

@@ -59,7 +59,8 @@ no_plus : (word : List ℕ) → all_ascii_digits word ≡ true → without_leadi
 no_plus [] digits = without_leading_plus_none [] (λ e. omega (arith, e))
 no_plus (c ∷ cs) digits = let range = tells_all_ascii_digits.parts c cs digits in without_leading_plus_none (c ∷ cs) (λ e. omega (arith, e, range.0))
 
-as_decimal : {E : Type 0} (word : List ℕ) (r : Result ℕ E) → is_decimal word ≡ true → OkIff r (IsNumeral 10 word × (digits_value 10 word < 2 ^ 64)) (digits_value 10 word) → result_ok r ≡ decimal_number word
+as_decimal : {E : Type 0} (word : List ℕ) (r : Result ℕ E) → is_decimal word ≡ true → OkIff r (IsNumeral 10 word × (digits_value 10 word < 2 ^ 64)) (digits_value 10 word)
+    → result_ok r ≡ decimal_number word
 unfolding decimal_number
 as_decimal word (Ok n) decimal reads = let small : nat_lt (digits_value 10 word) (2 ^ 64) ≡ true = lt-ltb _ _ reads.0.1 in rw (decimal, small) (ap Some reads.1)
 as_decimal word (Err e) decimal fails = go (nat_lt (digits_value 10 word) (2 ^ 64)) refl

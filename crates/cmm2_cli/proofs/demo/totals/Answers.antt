@@ -17,7 +17,8 @@ loop-guest-preserved c =
     let discards : c.discards-discarded.result ≡ discards_of w guest = c.discards-discarded.ensures.sum in
     let most : discards_of w guest ≤ MAX_GUEST_PAGES * 2 ^ 32 = subst (λ n. n ≤ MAX_GUEST_PAGES * 2 ^ 32) discards c.discards-discarded.ensures.most in
     let faults : c.faults-faults.result ≡ (guest_at w guest).parts.faults = c.faults-faults.ensures ∙ ap (λ (g : GuestState). g.parts.faults) its in
-    let next = sums_next w guest c.loop-guest.entries c.loop-guest.discarded c.loop-guest.faults c.loop-guest.invariant (few c.args.plan.now c.args.world.now guest c.requires.in_range c.requires.played below) most in
+    let few_here = few c.args.plan.now c.args.world.now guest c.requires.in_range c.requires.played below in
+    let next = sums_next w guest c.loop-guest.entries c.loop-guest.discarded c.loop-guest.faults c.loop-guest.invariant few_here most in
     subst (λ n. AreSums w (guest + 1) (c.loop-guest.entries + n) (c.loop-guest.discarded + c.discards-discarded.result) (c.loop-guest.faults + c.faults-faults.result)) (sym entries)
     (subst (λ n. AreSums w (guest + 1) (c.loop-guest.entries + length (guest_at w guest).journal) (c.loop-guest.discarded + n) (c.loop-guest.faults + c.faults-faults.result)) (sym discards)
     (subst (λ n. AreSums w (guest + 1) (c.loop-guest.entries + length (guest_at w guest).journal) (c.loop-guest.discarded + discards_of w guest) (c.loop-guest.faults + n)) (sym faults) next))
