@@ -1,7 +1,7 @@
-use Rattle.std.proofs.Common.{◌≡◌, ◌∙◌, ℕ, ◌+◌, ◌-◌, ◌*◌, ◌<◌, ◌≤◌, List, [], ◌∷◌, ◌++◌, length, drop, replicate, map, sym, ap, subst, arith, All}
+use Rattle.std.proofs.Common.{◌≡◌, ◌∙◌, ℕ, ◌+◌, ◌-◌, ◌*◌, ◌<◌, ◌≤◌, List, [], ◌∷◌, ◌++◌, length, drop, replicate, map, refl, sym, ap, subst, arith, All}
 use Rattle.std.proofs.Math.Nat.{mul-le-mul_left}
 use Rattle.std.specs.List.{flat_map, range_with_len, sum_by}
-use Rattle.std.proofs.lemmas.List.{length-append, length-take, length-drop, length-replicate, append_assoc, replicate_more}
+use Rattle.std.proofs.lemmas.List.{length-append, length-take, length-drop, length-replicate, append_assoc}
 use Rattle.std.proofs.lemmas.List.Elements.{All-append, All-map, All-replicate, All-head, All-tail, All-nil}
 use Rattle.std.proofs.lemmas.List.Concat.{length-flat_map}
 use mathlib.Core.Path.{fun_ext}
@@ -11,11 +11,10 @@ use Rattle.cmm_types.specs.declared.plan.FilePlan.{FilePlan}
 use Rattle.cmm_types.specs.InRange.{FileInRange, file_pages_of}
 use Rattle.cmm_io.specs.DiskOf.{page_at, file_bytes, file_blocks, disk_of}
 use Rattle.cmm_types.specs.Bytes.{zero_page}
-use Rattle.cmm_io.specs.Padded.{padded}
 
-pub padded_nothing : (bytes : List ℕ) → bytes ≡ padded [] → bytes ≡ zero_page
+pub zero_blocks : (n : ℕ) → replicate n (replicate PAGE 0) ≡ replicate n zero_page
 unfolding zero_page
-padded_nothing bytes e = e
+zero_blocks n = refl
 
 pub length-zeros : length zero_page ≡ PAGE
 unfolding zero_page
@@ -63,7 +62,3 @@ pub page_more : (before blocks : List (List ℕ)) (block : List ℕ) (f : ℕ �
     → blocks ++ block ∷ [] ≡ before ++ map f (range_with_len 0 (n + 1))
 page_more before blocks block f n e b =
     ap (λ l. l ++ block ∷ []) e ∙ append_assoc before _ _ ∙ ap (λ x. before ++ (map f (range_with_len 0 n) ++ x ∷ [])) b ∙ ap (λ l. before ++ l) (sym (map-range_with_len_more f 0 n n (omega arith)))
-
-pub zeros_more : (before blocks : List (List ℕ)) (block : List ℕ) (n : ℕ) → blocks ≡ before ++ replicate n zero_page → block ≡ padded [] → blocks ++ block ∷ [] ≡ before ++ replicate (n + 1) zero_page
-zeros_more before blocks block n e b =
-    ap (λ l. l ++ block ∷ []) e ∙ append_assoc before _ _ ∙ ap (λ x. before ++ (replicate n zero_page ++ x ∷ [])) (padded_nothing block b) ∙ ap (λ l. before ++ l) (replicate_more n zero_page)

@@ -3,3 +3,4 @@ pub mod Pages
 pub mod DiskBlocks
 pub mod Progress
 pub mod Counted
+pub mod KeepsCount

@@ -1,6 +1,7 @@
 -- The disk in memory, and what each call does to it. Nothing is left free but the bytes of a read that failed.
 use Rattle.std.specs.Prelude.{◌≡◌, ℕ, List, [], length, Some, Ok, Err, true, false, slice_index_or, slice_set}
 use Rattle.cmm_types.specs.declared.plan.FilePlan.{FilePlan}
+use Rattle.cmm_types.specs.declared.plan.GuestPlan.{GuestPlan}
 use Rattle.cmm_io.specs.FailurePlan.{FailurePlan, failure_plan_of, fails_next, after_next}
 use Rattle.cmm_io.specs.DiskCall.{DiskCall, Read, Write}
 use Rattle.cmm_io.specs.DiskView.{DiskView}
@@ -14,6 +15,10 @@ pub record DiskState : Type 0 where
 -- the disk of these files and swap slots before its first call
 abbrev pub opened : List FilePlan → ℕ → List ℕ → DiskState
 opened files swap fails = record { blocks = disk_of files swap; failures = failure_plan_of fails }
+
+-- a guest's disk before its first call: its files and swap slots, with the calls that are planned to fail
+abbrev pub opening_disk : GuestPlan → DiskState
+opening_disk plan = opened plan.files plan.swap plan.disk_fail
 
 -- the same blocks after one more call
 abbrev pub next_call : DiskState → DiskState

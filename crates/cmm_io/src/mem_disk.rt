@@ -1,64 +1,31 @@
 ghost use Rattle.std.specs.Prelude.{◌≡◌, ◌+◌, ◌++◌, ◌<◌, ◌≤◌, ◌^◌, [], ℕ, length, List, All, IfOk, OnOk, slice_index_or};
 ghost use Rattle.cmm_types.specs.declared.page.TheConstants.{PAGE};
-ghost use Rattle.cmm_types.specs.InRange.{FileInRange, file_pages_of};
+ghost use Rattle.cmm_types.specs.InRange.{FileInRange, GuestInRange, file_pages_of};
 ghost use Rattle.cmm_io.specs.DiskView.{DiskFollows};
 ghost use Rattle.cmm_io.specs.DiskOf.{file_blocks};
-ghost use Rattle.cmm_io.specs.DiskState.{DiskStep, disk_view, opened};
+ghost use Rattle.cmm_io.specs.DiskState.{DiskStep, disk_view, opened, opening_disk};
 ghost use Rattle.cmm_io.specs.Padded.{padded};
 
 use crate::disk::Disk;
 use crate::failed::Failed;
 use crate::failures::PlannedFailures;
-use cmm_types::{FilePlan, PAGE};
+use cmm_types::{FilePlan, GuestPlan, PAGE};
+use lazy_list::LazyList;
 use std::alloc::{AllocError, Global};
 use std::marker::Model;
 
-/// A block of a page's size.
-#[derive(Drop)]
-struct Block {
-    bytes: Vec<u8>,
-}
-
-impl Model for Block {
-    ghost use Rattle.std.specs.Prelude.{◌≡◌, ℕ, List, length};
-    ghost use Rattle.cmm_types.specs.declared.page.TheConstants.{PAGE};
-
-    ghost Value = { List ℕ };
-
-    ghost view = { λ b. b.bytes.items };
-
-    ghost invariant = { λ b. length b.bytes.items ≡ PAGE };
-}
-
-impl Block {
-    // These bytes, and zeros behind them.
-    fn open(alloc: Global, head: &[u8]) -> Result<Block, AllocError>
-        requires { length head.now ≤ PAGE }
-        ensures { IfOk result (λ block. block ≡ padded head.now) }
-    {
-        let mut bytes = Vec::with_capacity(alloc, PAGE)?;
-        bytes.extend_from_slice(head)?;
-        bytes.resize(PAGE, 0)?;
-        Ok(Block { bytes })
-    }
-
-    fn read(&self, into: &mut [u8])
-        requires { length into.old ≡ PAGE }
-        ensures { into.new ≡ self.now }
-    {
-        into.copy_from_slice(&self.bytes);
-    }
-
-    fn write(&mut self, from: &[u8])
-        requires { length from.now ≡ PAGE }
-        ensures { self.new ≡ from.now }
-    {
-        self.bytes.copy_from_slice(from);
-    }
+// These bytes, and zeros behind them.
+fn filled(head: &[u8]) -> [u8; PAGE]
+    requires { length head.now ≤ PAGE }
+    ensures { result ≡ padded head.now }
+{
+    let mut block = [0; PAGE];
+    block[..head.len()].copy_from_slice(head);
+    block
 }
 
 // Puts the pages of a file behind the blocks.
-fn add_file(alloc: Global, blocks: &mut Vec<Block>, file: &FilePlan) -> Result<(), AllocError>
+fn add_file(blocks: &mut Vec<[u8; PAGE]>, file: &FilePlan) -> Result<(), AllocError>
     requires { FileInRange file.now }
     ensures { OnOk result (blocks.new.items ≡ blocks.old.items ++ file_blocks file.now) }
 {
@@ -66,8 +33,7 @@ fn add_file(alloc: Global, blocks: &mut Vec<Block>, file: &FilePlan) -> Result<(
     for index in 0..file.pages {
         let start = head.len().min(PAGE * index as usize);
         let end = head.len().min(start + PAGE);
-        let block = Block::open(alloc, &head[start..end])?;
-        blocks.push(block)?;
+        blocks.push(filled(&head[start..end]))?;
     }
     Ok(())
 }
@@ -75,7 +41,7 @@ fn add_file(alloc: Global, blocks: &mut Vec<Block>, file: &FilePlan) -> Result<(
 /// A disk in memory. Reads and writes are numbered together, and a call fails exactly where its number is planned.
 #[derive(Drop)]
 pub struct MemDisk {
-    blocks: Vec<Block>,
+    blocks: LazyList<[u8; PAGE]>,
     failures: PlannedFailures,
 }
 
@@ -86,9 +52,9 @@ impl Model for MemDisk {
 
     ghost Value = { DiskState };
 
-    ghost view = { λ d. record { blocks = d.blocks.items; failures = d.failures } };
+    ghost view = { λ d. record { blocks = d.blocks; failures = d.failures } };
 
-    ghost invariant = { λ d. (length d.blocks.items < 2 ^ 32) × All (λ bytes. length bytes ≡ PAGE) d.blocks.items };
+    ghost invariant = { λ d. (length d.blocks < 2 ^ 32) × All (λ bytes. length bytes ≡ PAGE) d.blocks };
 }
 
 impl MemDisk {
@@ -106,14 +72,26 @@ impl MemDisk {
     {
         let mut blocks = Vec::new(alloc);
         for file in files {
-            add_file(alloc, &mut blocks, file)?;
+            add_file(&mut blocks, file)?;
         }
-        for _ in 0..swap {
-            let block = Block::open(alloc, &[])?;
-            blocks.push(block)?;
-        }
-        let failures = PlannedFailures::open(alloc, fails)?;
-        Ok(MemDisk { blocks, failures })
+        Ok(MemDisk {
+            blocks: LazyList::behind(blocks, swap as usize, [0; PAGE])?,
+            failures: PlannedFailures::open(alloc, fails)?,
+        })
+    }
+
+    /// The disk of a guest before its first call: its files, its swap slots, and the calls that are planned to fail.
+    #[tactic(auto, using(cmm_types::specs::Laws::RangeLaws::blocks_bound))]
+    pub fn of_plan(alloc: Global, plan: &GuestPlan) -> Result<MemDisk, AllocError>
+        requires { GuestInRange plan.now }
+        ensures { IfOk result (λ disk. disk ≡ opening_disk plan.now) }
+    {
+        MemDisk::open(
+            alloc,
+            plan.files.as_slice(),
+            plan.swap,
+            plan.disk_fail.as_slice(),
+        )
     }
 
     /// The bytes of a block. This is no numbered call.
@@ -121,8 +99,7 @@ impl MemDisk {
         requires { block < length self.now.blocks }
         ensures { result.now ≡ slice_index_or self.now.blocks block [] }
     {
-        let it = &self.blocks[block as usize];
-        it.bytes.as_slice()
+        self.blocks.get(block as usize).as_slice()
     }
 }
 
@@ -145,8 +122,7 @@ impl Disk for MemDisk {
         if self.failures.next() {
             return Err(Failed);
         }
-        let it = &self.blocks[block as usize];
-        it.read(into);
+        into.copy_from_slice(self.blocks.get(block as usize));
         Ok(())
     }
 
@@ -154,8 +130,7 @@ impl Disk for MemDisk {
         if self.failures.next() {
             return Err(Failed);
         }
-        let it = &mut self.blocks[block as usize];
-        it.write(from);
+        self.blocks.set(block as usize, filled(from));
         Ok(())
     }
 }

@@ -6,25 +6,22 @@ ghost use Rattle.cmm_pager.specs.PagerStep.{PagerStep, block_tells};
 
 use crate::pager::{Pager, PagingBlock};
 use cmm_io::{Failed, PlannedFailures};
-use cmm_types::PAGE;
+use page_pieces::{Piece, pieces};
 use std::alloc::{AllocError, Global};
 use std::marker::Model;
 
 /// A paging block in memory. Contracts see it as its bytes.
 #[derive(Drop)]
 pub struct MemBlock {
-    bytes: Vec<u8>,
+    bytes: Piece,
 }
 
 impl Model for MemBlock {
-    ghost use Rattle.std.specs.Prelude.{◌≡◌, ℕ, List, length};
-    ghost use Rattle.cmm_types.specs.declared.page.TheConstants.{PAGE};
+    ghost use Rattle.std.specs.Prelude.{ℕ, List};
 
     ghost Value = { List ℕ };
 
-    ghost view = { λ b. b.bytes.items };
-
-    ghost invariant = { λ b. length b.bytes.items ≡ PAGE };
+    ghost view = { λ b. b.bytes };
 }
 
 impl MemBlock {
@@ -32,9 +29,22 @@ impl MemBlock {
     pub fn open(alloc: Global) -> Result<MemBlock, AllocError>
         ensures { IfOk result (λ block. block ≡ replicate PAGE 0) }
     {
-        Ok(MemBlock {
-            bytes: vec![in alloc; 0; PAGE]?,
-        })
+        match pieces(alloc, 1)?.pop() {
+            Some(bytes) => Ok(MemBlock { bytes }),
+            None => unreachable!(),
+        }
+    }
+
+    /// As many blocks of zeros as asked for, with all their memory, which is one reservation: what no page was put to
+    /// is not written.
+    pub fn open_all(alloc: Global, count: u32) -> Result<Vec<MemBlock>, AllocError>
+        ensures { IfOk result (λ blocks. blocks.items ≡ replicate count (replicate PAGE 0)) }
+    {
+        let mut blocks = Vec::with_capacity(alloc, count as usize)?;
+        for bytes in pieces(alloc, count)? {
+            blocks.push_reserved(MemBlock { bytes });
+        }
+        Ok(blocks)
     }
 
     /// The bytes that it keeps. This is no numbered call.
@@ -42,7 +52,7 @@ impl MemBlock {
         ensures bytes { result.now ≡ self.now }
         ensures whole { length result.now ≡ PAGE }
     {
-        self.bytes.as_slice()
+        self.bytes.bytes()
     }
 }
 
@@ -101,7 +111,7 @@ impl Pager for MemPager {
         if self.fails() {
             return Err(Failed);
         }
-        block.bytes.copy_from_slice(bytes);
+        block.bytes.set(bytes);
         Ok(())
     }
 
@@ -109,7 +119,7 @@ impl Pager for MemPager {
         if self.fails() {
             return Err(Failed);
         }
-        into.copy_from_slice(&block.bytes);
+        into.copy_from_slice(block.bytes.bytes());
         Ok(())
     }
 }

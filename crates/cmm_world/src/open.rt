@@ -4,7 +4,8 @@ ghost use Rattle.cmm_types.specs.InRange.{GuestInRange, ScenarioInRange, guest_p
 ghost use Rattle.cmm_io.specs.FailurePlan.{failure_plan_of};
 ghost use Rattle.cmm_types.specs.Bytes.{zero_page};
 ghost use Rattle.guest_rules.specs.GuestState.{opening_guest};
-ghost use Rattle.cmm_world.specs.WorldState.{opening_disk, opening_host};
+ghost use Rattle.cmm_io.specs.DiskState.{opening_disk};
+ghost use Rattle.cmm_world.specs.WorldState.{opening_host};
 
 use cmm_io::MemDisk;
 use cmm_pager::{MemBlock, MemPager};
@@ -25,20 +26,6 @@ pub fn open_guests(alloc: Global, plans: &[GuestPlan]) -> Result<Vec<Guest>, All
     Ok(guests)
 }
 
-// A guest's disk before its first call.
-#[tactic(auto, using(cmm_types::specs::Laws::RangeLaws::blocks_bound))]
-fn open_disk(alloc: Global, plan: &GuestPlan) -> Result<MemDisk, AllocError>
-    requires { GuestInRange plan.now }
-    ensures { IfOk result (λ disk. disk ≡ opening_disk plan.now) }
-{
-    MemDisk::open(
-        alloc,
-        plan.files.as_slice(),
-        plan.swap,
-        plan.disk_fail.as_slice(),
-    )
-}
-
 /// The disk of each guest.
 pub fn open_disks(alloc: Global, plans: &[GuestPlan]) -> Result<Vec<MemDisk>, AllocError>
     requires { All GuestInRange plans.now }
@@ -46,7 +33,7 @@ pub fn open_disks(alloc: Global, plans: &[GuestPlan]) -> Result<Vec<MemDisk>, Al
 {
     let mut disks = Vec::with_capacity(alloc, plans.len())?;
     for plan in plans {
-        disks.push(open_disk(alloc, plan)?)?;
+        disks.push(MemDisk::of_plan(alloc, plan)?)?;
     }
     Ok(disks)
 }
@@ -83,14 +70,11 @@ fn open_pagers(alloc: Global, plans: &[GuestPlan]) -> Result<Vec<MemPager>, Allo
     Ok(pagers)
 }
 
-fn open_blocks(alloc: Global, count: usize) -> Result<Vec<MemBlock>, AllocError>
+#[tactic(auto, unfolding(cmm_types::specs::Bytes::zero_page))]
+fn open_blocks(alloc: Global, count: u32) -> Result<Vec<MemBlock>, AllocError>
     ensures { IfOk result (λ blocks. blocks.items ≡ replicate count zero_page) }
 {
-    let mut blocks = Vec::with_capacity(alloc, count)?;
-    for _ in 0..count {
-        blocks.push(MemBlock::open(alloc)?)?;
-    }
-    Ok(blocks)
+    MemBlock::open_all(alloc, count)
 }
 
 /// The host, with a paging block for each page of all guests.
@@ -100,7 +84,7 @@ pub fn open_host(alloc: Global, plan: &Scenario) -> Result<Host, AllocError>
 {
     let plans = plan.guests.as_slice();
     let counts = page_counts(alloc, plans)?;
-    let blocks = open_blocks(alloc, pages_in_all(plans) as usize)?;
+    let blocks = open_blocks(alloc, pages_in_all(plans))?;
     let pagers = open_pagers(alloc, plans)?;
     let own = MemPager::open(alloc, plan.pager_fail.as_slice())?;
     Host::open(alloc, counts.as_slice(), plan.frames, blocks, pagers, own)

@@ -1,5 +1,5 @@
 -- Which page has a tag, which swap slot a tag is assigned to, and which block of the disk backs it.
-use Rattle.std.specs.Prelude.{ℕ, ◌+◌, ◌*◌, ◌<◌, ◌==◌, ◌&&◌, Bool, false, List, length, take, sum, get_or, Option, Some, None, is_none, slice_set, slice_index_or, replicate}
+use Rattle.std.specs.Prelude.{◌≡◌, ℕ, ◌+◌, ◌*◌, ◌<◌, ◌==◌, ◌&&◌, Bool, false, List, length, take, sum, get_or, Option, Some, None, is_none, slice_set, slice_index_or, replicate}
 use Rattle.std.specs.List.{position}
 use Rattle.cmm_types.specs.declared.command.TheConstants.{MAX_MAPPING_PAGES}
 use Rattle.cmm_types.specs.declared.page.Tag.{Tag}
@@ -56,6 +56,11 @@ holds_page slot index (Some (Anon other at)) = slot == other && index == at
 abbrev pub swap_slot : CacheView → Tag → Option ℕ
 swap_slot cache (File file index) = None
 swap_slot cache (Anon slot index) = position (holds_page slot index) cache.swap
+
+-- no tag has two swap slots
+abbrev pub HasOneSwapSlot : CacheView → Type 0
+HasOneSwapSlot cache =
+    (number other : ℕ) (tag : Tag) → slice_index_or cache.swap number None ≡ Some tag → slice_index_or cache.swap other None ≡ Some tag → number ≡ other
 
 -- the least swap slot that isn't assigned
 abbrev pub free_swap : CacheView → Option ℕ

@@ -4,6 +4,7 @@ ghost use Rattle.cmm_types.specs.declared.plan.TheConstants.{MAX_MAPPING_SLOTS};
 ghost use Rattle.guest_cache.specs.CacheView.{IsTag, index_place, page_of, opening_cache, with_page, without_page, IsAnonymous, swap_slot, free_swap, assigned, unassigned, backing_of, pages_before};
 
 use cmm_types::{MAX_MAPPING_PAGES, Tag};
+use lazy_list::LazyList;
 use marks::Marks;
 use std::alloc::{AllocError, Global};
 use std::marker::Model;
@@ -21,11 +22,11 @@ pub struct Cache {
     /// The pages of all files together.
     file_pages: u32,
     /// The page that has each tag, by the tag's place.
-    index: Vec<Option<u32>>,
+    index: LazyList<Option<u32>>,
     /// The tag that each swap slot is assigned to.
     swap: Vec<Option<Tag>>,
     /// The swap slot of each page of a mapping slot.
-    swapped: Vec<Option<u32>>,
+    swapped: LazyList<Option<u32>>,
     /// The swap slots that are assigned to no tag.
     free: Marks,
 }
@@ -40,23 +41,15 @@ impl Model for Cache {
 
     ghost Value = { CacheView };
 
-    ghost view = { λ c. record { files = c.files.items; slots = c.slots; index = c.index.items; swap = c.swap.items } };
+    ghost view = { λ c. record { files = c.files.items; slots = c.slots; index = c.index; swap = c.swap.items } };
 
     ghost invariant = { λ c. (c.firsts.items ≡ map (pages_before c.files.items) (range_with_len 0 (length c.files.items)))
         × (c.file_pages ≡ sum c.files.items)
         × (c.file_pages + length c.swap.items < 2 ^ 32)
         × (c.slots ≤ MAX_MAPPING_SLOTS)
-        × (length c.index.items ≡ sum c.files.items + c.slots * MAX_MAPPING_PAGES)
-        × IsSwapIndex c.slots c.swap.items c.swapped.items
+        × (length c.index ≡ sum c.files.items + c.slots * MAX_MAPPING_PAGES)
+        × IsSwapIndex c.slots c.swap.items c.swapped
         × (c.free ≡ map is_none c.swap.items) };
-}
-
-/// A table of so many pages or swap slots, with none yet.
-fn none_yet(alloc: Global, count: usize) -> Result<Vec<Option<u32>>, AllocError>
-    ensures { IfOk result (λ table. table.items ≡ replicate count None) }
-{
-    let table = vec![in alloc; None; count]?;
-    Ok(table)
 }
 
 /// So many swap slots, none of them assigned.
@@ -94,15 +87,14 @@ impl Cache {
             file_pages += *pages;
         }
         let anonymous = (slots * MAX_MAPPING_PAGES) as usize;
-        let index = none_yet(alloc, file_pages as usize + anonymous)?;
         Ok(Cache {
             files: Vec::from_slice(alloc, files)?,
             slots,
             firsts,
             file_pages,
-            index,
+            index: LazyList::open(alloc, file_pages as usize + anonymous, None)?,
             swap: no_tags(alloc, swap as usize)?,
-            swapped: none_yet(alloc, anonymous)?,
+            swapped: LazyList::open(alloc, anonymous, None)?,
             free: all_free(alloc, swap)?,
         })
     }
@@ -112,7 +104,7 @@ impl Cache {
         requires { IsTag self.now tag }
         ensures { result ≡ page_of self.now tag }
     {
-        self.index[self.place(tag)]
+        self.index.at(self.place(tag))
     }
 
     /// Notes that a page has a tag that no page has.
@@ -123,7 +115,7 @@ impl Cache {
         ensures { self.new ≡ with_page self.old tag page }
     {
         let place = self.place(tag);
-        self.index[place] = Some(page);
+        self.index.set(place, Some(page));
     }
 
     /// Notes that no page has a tag.
@@ -133,7 +125,7 @@ impl Cache {
         ensures { self.new ≡ without_page self.old tag }
     {
         let place = self.place(tag);
-        self.index[place] = None;
+        self.index.set(place, None);
     }
 
     /// The swap slot of an anonymous page, if it has one; a file's page has none.
@@ -224,7 +216,7 @@ impl Cache {
         ensures found { result ≡ swap_slot self.now (Anon slot index) }
         ensures within { IfSome result (λ number. number < length self.now.swap) }
     {
-        self.swapped[(slot * MAX_MAPPING_PAGES + index) as usize]
+        self.swapped.at((slot * MAX_MAPPING_PAGES + index) as usize)
     }
 
     /// The least free swap slot; `None` exactly where all swap slots are assigned. Of 65,536 swap slots it looks at no more
@@ -247,7 +239,8 @@ impl Cache {
         ensures { self.new ≡ assigned self.old (Anon slot index) (Some number) }
     {
         self.swap[number as usize] = Some(Tag::Anon { slot, index });
-        self.swapped[(slot * MAX_MAPPING_PAGES + index) as usize] = Some(number);
+        self.swapped
+            .set((slot * MAX_MAPPING_PAGES + index) as usize, Some(number));
         self.free.set(number as usize, false);
     }
 
@@ -270,7 +263,8 @@ impl Cache {
         ensures { self.new ≡ unassigned self.old (Some number) }
     {
         self.swap[number as usize] = None;
-        self.swapped[(slot * MAX_MAPPING_PAGES + index) as usize] = None;
+        self.swapped
+            .set((slot * MAX_MAPPING_PAGES + index) as usize, None);
         self.free.set(number as usize, true);
     }
 }

@@ -412,6 +412,11 @@ same_chains {entries = entries} {first = first} {first' = first'} {next = next} 
     subst (λ xs. HasChains entries first' next' xs) (sym is_before)
     (subst (λ xs. HasChains entries first' xs before) (sym is_next) (subst (λ xs. HasChains entries xs next before) (sym is_first) kept))
 
+pub all_same : {entries entries' : List (Option Pte)} {first first' next next' before before' : List (Option ℕ)} → entries' ≡ entries → first' ≡ first → next' ≡ next → before' ≡ before
+    → HasChains entries first next before → HasChains entries' first' next' before'
+all_same {first' = first'} {next' = next'} {before' = before'} is_entries is_first is_next is_before kept =
+    subst (λ xs. HasChains xs first' next' before') (sym is_entries) (same_chains is_first is_next is_before kept)
+
 pub HasChains-opening : (pages places : ℕ) → HasChains (replicate places None) (replicate pages None) (replicate places None) (replicate places None)
 HasChains-opening pages places =
     record {

@@ -3,20 +3,22 @@ ghost use Rattle.guest_maps.specs.MapsView.{shows, unless_shows};
 ghost use Rattle.guest_maps.specs.EntryChains.{with_pte, set_at, first_with};
 
 use crate::slot::Pte;
+use lazy_list::LazyList;
 use std::alloc::{AllocError, Global};
 use std::marker::Model;
 
 /// The entries of all mapping slots by their place, with a chain through those that show a page. Every call but
-/// `open` and `clear_page` takes the same time, whatever the number of entries.
+/// `open` and `clear_page` takes the same time, whatever the number of entries, but for the first entry behind all
+/// others. Memory is reserved for every place, and touched up to the last that ever had an entry.
 #[derive(Drop)]
 pub struct Entries {
-    entries: Vec<Option<Pte>>,
+    entries: LazyList<Option<Pte>>,
     /// The first place of each page's chain.
     first: Vec<Option<u32>>,
     /// The next place in the chain of the page that a place's entry shows.
-    next: Vec<Option<u32>>,
+    next: LazyList<Option<u32>>,
     /// The place before it in that chain.
-    before: Vec<Option<u32>>,
+    before: LazyList<Option<u32>>,
 }
 
 impl Model for Entries {
@@ -25,9 +27,9 @@ impl Model for Entries {
 
     ghost Value = { EntriesView };
 
-    ghost view = { λ e. record { pages = length e.first.items; entries = e.entries.items } };
+    ghost view = { λ e. record { pages = length e.first.items; entries = e.entries } };
 
-    ghost invariant = { λ e. HasChains e.entries.items e.first.items e.next.items e.before.items };
+    ghost invariant = { λ e. HasChains e.entries e.first.items e.next e.before };
 }
 
 impl Entries {
@@ -36,10 +38,10 @@ impl Entries {
         ensures { IfOk result (λ opened. opened ≡ record { pages = pages; entries = replicate places None }) }
     {
         Ok(Entries {
-            entries: vec![in alloc; None; places as usize]?,
+            entries: LazyList::open(alloc, places as usize, None)?,
             first: vec![in alloc; None; pages as usize]?,
-            next: vec![in alloc; None; places as usize]?,
-            before: vec![in alloc; None; places as usize]?,
+            next: LazyList::open(alloc, places as usize, None)?,
+            before: LazyList::open(alloc, places as usize, None)?,
         })
     }
 
@@ -47,7 +49,7 @@ impl Entries {
         requires { place < length self.now.entries }
         ensures { result ≡ slice_index_or self.now.entries place None }
     {
-        self.entries[place as usize]
+        self.entries.at(place as usize)
     }
 
     #[tactic(auto, unfolding(crate::specs::EntryChains::with_pte))]
@@ -64,16 +66,16 @@ impl Entries {
         requires { place < length self.old.entries }
         ensures { self.new ≡ with_pte self.old place None }
     {
-        let Some(pte) = self.entries[place as usize] else {
+        let Some(pte) = self.entries.at(place as usize) else {
             return;
         };
-        let before = self.before[place as usize];
-        let after = self.next[place as usize];
+        let before = self.before.at(place as usize);
+        let after = self.next.at(place as usize);
         lead_to(&mut self.first, pte.page, before, after);
         set_link(&mut self.next, before, after);
-        self.next[place as usize] = None;
+        self.next.set(place as usize, None);
         set_link(&mut self.before, after, before);
-        self.entries[place as usize] = None;
+        self.entries.set(place as usize, None);
     }
 
     /// Clears every entry that shows a page, and answers how many there were, in time for these alone.
@@ -108,20 +110,20 @@ impl Entries {
     {
         let after = self.first[pte.page as usize];
         set_link(&mut self.before, after, Some(place));
-        self.before[place as usize] = None;
-        self.next[place as usize] = after;
+        self.before.set(place as usize, None);
+        self.next.set(place as usize, after);
         self.first[pte.page as usize] = Some(place);
-        self.entries[place as usize] = Some(pte);
+        self.entries.set(place as usize, Some(pte));
     }
 }
 
 /// Lets a place of a chain lead to another.
-fn set_link(links: &mut [Option<u32>], place: Option<u32>, to: Option<u32>)
+fn set_link(links: &mut LazyList<Option<u32>>, place: Option<u32>, to: Option<u32>)
     requires { IfSome place (λ at. at < length links.old) }
     ensures { links.new ≡ set_at links.old place to }
 {
     if let Some(place) = place {
-        links[place as usize] = to;
+        links.set(place as usize, to);
     }
 }
 

@@ -67,8 +67,8 @@ pub fn bodies_of(
     ensures start { IfOk result (λ bodies. All (FitsStart lent_body body_house pool.now.table) bodies.items) }
 {
     let mut bodies = Vec::new(alloc);
-    for _ in 0..count {
-        bodies.push(PageBody::new(MemBlock::open(alloc)?, seat.mark(pool)))?;
+    for block in MemBlock::open_all(alloc, count)? {
+        bodies.push(PageBody::new(block, seat.mark(pool)))?;
     }
     Ok(bodies)
 }

@@ -1,10 +1,9 @@
-ghost use Rattle.std.specs.Prelude.{◌≡◌, ◌<◌, ◌≤◌, length, IfOk, vec_len};
+ghost use Rattle.std.specs.Prelude.{◌≡◌, ◌<◌, length};
 ghost use Rattle.std.specs.Borrow.{sem};
 ghost use Rattle.cmm_types.specs.declared.page.TheConstants.{PAGE};
 
 use crate::mark::{Mark, RegionMark};
-use cmm_types::PAGE;
-use std::alloc::{AllocError, Global};
+use page_pieces::Piece;
 use std::marker::Model;
 
 /// A page frame: `PAGE` bytes under a number of its own in its region, which is below `count`, the number of the
@@ -13,7 +12,7 @@ use std::marker::Model;
 pub struct Frame {
     number: u32,
     count: u32,
-    bytes: Vec<u8>,
+    bytes: Piece,
     mark: Mark,
 }
 
@@ -24,31 +23,26 @@ impl Model for Frame {
 
     ghost Value = { FrameView };
 
-    ghost view = { λ f. record { region = record { name = f.mark; count = f.count }; number = f.number; bytes = f.bytes.items } };
+    ghost view = { λ f. record { region = record { name = f.mark; count = f.count }; number = f.number; bytes = f.bytes } };
 
-    ghost invariant = { λ f. (f.number < f.count) × (length f.bytes.items ≡ PAGE) };
+    ghost invariant = { λ f. (f.number < f.count) × (length f.bytes ≡ PAGE) };
 }
 
 impl Frame {
-    ghost use Rattle.page_arena.specs.FrameView.{zero_frame};
     ghost use Rattle.page_arena.specs.Lending.{LendsBytes};
 
-    /// Frame `number` of the region of this mark with `count` frames, holding zeros.
-    pub(crate) fn zeroed(
-        alloc: Global,
-        mark: Mark,
-        count: u32,
-        number: u32,
-    ) -> Result<Frame, AllocError>
-        requires { number < count }
-        ensures { IfOk result (λ f. f ≡ zero_frame (record { name = mark; count = count }) number) }
+    /// Frame `number` of the region of this mark with `count` frames, holding the piece's bytes.
+    pub(crate) fn of(bytes: Piece, mark: Mark, count: u32, number: u32) -> Frame
+        requires within { number < count }
+        requires whole { length bytes ≡ PAGE }
+        ensures { result ≡ record { region = record { name = mark; count = count }; number = number; bytes = bytes } }
     {
-        Ok(Frame {
+        Frame {
             number,
             count,
-            bytes: vec![in alloc; 0; PAGE]?,
+            bytes,
             mark,
-        })
+        }
     }
 
     pub fn number(&self) -> u32
@@ -72,7 +66,7 @@ impl Frame {
         ensures bytes { result.now ≡ self.now.bytes }
         ensures whole { length result.now ≡ PAGE }
     {
-        self.bytes.as_slice()
+        self.bytes.bytes()
     }
 
     /// The bytes, to be written. No other frame changes with them.
@@ -81,10 +75,9 @@ impl Frame {
         ensures bytes { result.now ≡ self.old.bytes }
         ensures whole { length result.now ≡ PAGE }
     {
-        self.bytes.as_mut_slice()
+        self.bytes.bytes_mut()
     }
 
-    /// Spends the frame for good: its region has no such frame again, and can't be closed. Today each frame owns its
-    /// memory, which is freed here.
+    /// Spends the frame for good: its region has no such frame again, and can't be closed.
     pub fn lose(self) {}
 }

@@ -5,6 +5,7 @@ ghost use Rattle.page_arena.specs.FrameView.{IsOf, first_frames, has_number, mis
 use crate::frame::Frame;
 use crate::mark::Mark;
 use cmm_types::{Items, MAX_FRAMES};
+use page_pieces::pieces;
 use std::alloc::{AllocError, Global};
 use std::marker::Model;
 
@@ -46,11 +47,13 @@ impl Region {
         ensures frames { IfOk result (λ made. made.1.items ≡ first_frames made.0) }
     {
         let mark = Mark::new();
-        let mut frames = Vec::with_capacity(alloc, count as usize)?;
-        for number in 0..count {
-            frames.push(Frame::zeroed(alloc, mark.again(), count, number)?)?;
-        }
         let back = vec![in alloc; false; count as usize]?;
+        let mut frames = Vec::with_capacity(alloc, count as usize)?;
+        let mut number = 0;
+        for bytes in pieces(alloc, count)? {
+            frames.push_reserved(Frame::of(bytes, mark.again(), count, number));
+            number += 1;
+        }
         Ok((Region { count, mark, back }, frames))
     }
 

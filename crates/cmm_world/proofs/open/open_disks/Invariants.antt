@@ -1,5 +1,5 @@
 use Rattle.std.proofs.Common.{◌≡◌, map, take}
-use Rattle.cmm_world.specs.WorldState.{opening_disk}
+use Rattle.cmm_io.specs.DiskState.{opening_disk}
 use Rattle.cmm_world.proofs.open.open_disks.Given as goal
 
 -- the disks of the plans so far

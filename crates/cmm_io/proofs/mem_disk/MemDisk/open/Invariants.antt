@@ -1,11 +1,7 @@
-use Rattle.std.proofs.Common.{◌≡◌, ◌++◌, take, replicate}
+use Rattle.std.proofs.Common.{◌≡◌, take}
 use Rattle.std.specs.List.{flat_map}
 use Rattle.cmm_io.specs.DiskOf.{file_blocks}
-use Rattle.cmm_types.specs.Bytes.{zero_page}
 use Rattle.cmm_io.proofs.mem_disk.MemDisk.open.Given as goal
 
 abbrev pub invariant-loop-file : goal.invariant-loop-file
 invariant-loop-file l = l.blocks.items ≡ flat_map file_blocks (take l.file-index l.files)
-
-abbrev pub invariant-loop : goal.invariant-loop
-invariant-loop l = l.blocks.items ≡ flat_map file_blocks l.files ++ replicate l.counter zero_page

@@ -1,8 +1,9 @@
-use Rattle.std.proofs.Common.{◌≡◌, ◌<◌, ◌∙◌, None, Some, sym, subst, arith}
+use Rattle.std.proofs.Common.{◌≡◌, ◌<◌, ◌∙◌, None, Some, set, sym, subst, arith}
 use Rattle.std.specs.List.{position}
 use Rattle.std.proofs.lemmas.List.{length-set}
 use Rattle.cmm_types.specs.declared.page.Tag.TheVariants.{Anon}
 use Rattle.guest_cache.specs.CacheView.{CacheView, holds_page, swap_slot}
+use Rattle.guest_cache.specs.SwapTable.{IsSwapIndex}
 use Rattle.guest_cache.proofs.Swaps.{IsTable-released}
 use Rattle.guest_cache.proofs.FreeSlots.{free-set}
 use Rattle.guest_cache.proofs.cache.Cache.clear_swap.Goals as goal
@@ -20,6 +21,7 @@ invariant_of-self c =
       omega (arith, size, sound.2),
       sound.3,
       sound.4,
-      IsTable-released c.self.inside.slots swap c.self.inside.swapped.items c.args.slot c.args.index c.args.number below c.requires.index sound.5 its,
-      c.set.ensures ∙ free-set swap c.self.inside.free c.args.number None sound.6,
+      subst (λ swapped. IsSwapIndex c.self.inside.slots (set swap c.args.number None) swapped) (sym c.set.ensures)
+          (IsTable-released c.self.inside.slots swap c.self.inside.swapped c.args.slot c.args.index c.args.number below c.requires.index sound.5 its),
+      c.set-2.ensures ∙ free-set swap c.self.inside.free c.args.number None sound.6,
     )

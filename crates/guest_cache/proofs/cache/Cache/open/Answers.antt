@@ -27,7 +27,7 @@ invariant_of-result c =
       pages,
       omega (arith, c.requires.blocks, pages, swap, ap sum c.in_ok-from_slice.ensures.items),
       c.requires.slots,
-      ap length c.in_ok-index.ensures ∙ length-replicate (c.loop-pages.file_pages + c.args.slots * MAX_MAPPING_PAGES) None ∙ ap (λ n. n + c.args.slots * MAX_MAPPING_PAGES) pages,
-      rw (c.in_ok-no_tags.ensures, c.in_ok-none_yet.ensures) (IsTable-opening c.args.slots c.args.swap),
+      ap length c.in_ok-open.ensures ∙ length-replicate (c.loop-pages.file_pages + c.args.slots * MAX_MAPPING_PAGES) None ∙ ap (λ n. n + c.args.slots * MAX_MAPPING_PAGES) pages,
+      rw (c.in_ok-no_tags.ensures, c.in_ok-open-2.ensures) (IsTable-opening c.args.slots c.args.swap),
       rw c.in_ok-no_tags.ensures (c.in_ok-all_free.ensures ∙ free-opening c.args.swap),
     )

@@ -1,10 +1,11 @@
-use Rattle.std.proofs.Common.{◌≡◌, ◌<◌, None, Some, is_none, sym, subst, arith, ◌∙◌}
+use Rattle.std.proofs.Common.{◌≡◌, ◌<◌, None, Some, is_none, set, sym, subst, arith, ◌∙◌}
 use Rattle.std.specs.List.{position}
 use Rattle.std.proofs.lemmas.List.{length-set}
 use Rattle.std.proofs.lemmas.List.Quantifiers.{position-Some}
 use Rattle.cmm_types.specs.declared.page.Tag.{Tag}
 use Rattle.cmm_types.specs.declared.page.Tag.TheVariants.{Anon}
 use Rattle.guest_cache.specs.CacheView.{CacheView, holds_page, swap_slot, free_swap}
+use Rattle.guest_cache.specs.SwapTable.{IsSwapIndex}
 use Rattle.guest_cache.proofs.Swaps.{IsTable-assigned}
 use Rattle.guest_cache.proofs.FreeSlots.{free-set}
 use Rattle.guest_cache.proofs.cache.Cache.set_swap.Goals as goal
@@ -24,6 +25,7 @@ invariant_of-self c =
       omega (arith, size, sound.2),
       sound.3,
       sound.4,
-      IsTable-assigned c.self.inside.slots swap c.self.inside.swapped.items c.args.slot c.args.index c.args.number below c.requires.index sound.5 is.0 is.1 none,
-      c.set.ensures ∙ free-set swap c.self.inside.free c.args.number (Some tag) sound.6,
+      subst (λ swapped. IsSwapIndex c.self.inside.slots (set swap c.args.number (Some tag)) swapped) (sym c.set.ensures)
+          (IsTable-assigned c.self.inside.slots swap c.self.inside.swapped c.args.slot c.args.index c.args.number below c.requires.index sound.5 is.0 is.1 none),
+      c.set-2.ensures ∙ free-set swap c.self.inside.free c.args.number (Some tag) sound.6,
     )

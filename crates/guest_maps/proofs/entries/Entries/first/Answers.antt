@@ -9,5 +9,5 @@ pub returns : goal.returns
 returns c =
     let within : c.args.page < length c.self.inside.first.items = subst (λ (view : EntriesView). c.args.page < view.pages) (sym c.self.view_is) c.requires in
     subst (λ (view : EntriesView). MatchOption c.index.result.now (count_by (shows c.args.page) view.entries ≡ 0) (λ place. shows c.args.page (get_or view.entries place None) ≡ true)) c.self.view_is
-    (first_shows c.self.inside.entries.items c.self.inside.first.items c.self.inside.next.items c.self.inside.before.items c.args.page c.index.result.now c.self.invariant
+    (first_shows c.self.inside.entries c.self.inside.first.items c.self.inside.next c.self.inside.before c.args.page c.index.result.now c.self.invariant
     (sym (get_or_read c.self.inside.first.items c.args.page c.index.result.now within c.index.ensures None)))

@@ -1,0 +1,36 @@
+use crate::LazyList;
+use std::test::Fail;
+
+#[test]
+fn a_place_has_what_was_set_last_and_the_others_what_they_began_with(
+    rt: HostRuntime,
+) -> Result<(), Fail> {
+    let mut list = LazyList::open(rt.alloc(), 6, 7)?;
+    list.set(3, 1);
+    list.set(1, 2);
+    list.set(3, 4);
+    for (place, expected) in [7, 2, 7, 4, 7, 7].iter().enumerate() {
+        if place < list.len() {
+            assert_eq!(rt; list.at(place), *expected);
+            assert_eq!(rt; list.get(place), expected);
+        } else {
+            assert!(rt; false, "six places");
+        }
+    }
+    Ok(())
+}
+
+#[test]
+fn the_places_behind_the_values_are_blank(rt: HostRuntime) -> Result<(), Fail> {
+    let values = vec![in rt.alloc(); 9; 2]?;
+    let mut list = LazyList::behind(values, 2, 5)?;
+    list.set(2, 8);
+    for (place, expected) in [9, 9, 8, 5].iter().enumerate() {
+        if place < list.len() {
+            assert_eq!(rt; list.at(place), *expected);
+        } else {
+            assert!(rt; false, "four places");
+        }
+    }
+    Ok(())
+}

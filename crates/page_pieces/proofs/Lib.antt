@@ -1,0 +1,3 @@
+pub mod Lodges
+pub mod Rooms
+pub mod Shows
