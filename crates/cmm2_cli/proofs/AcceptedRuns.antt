@@ -14,7 +14,8 @@ use Rattle.cmm_check.specs.Accepted.{IsLegalGuest, AreLegalGuests}
 use Rattle.cmm_check.specs.Verdict.{verdict_of}
 use Rattle.cmm_check.proofs.LegalLaws.{legal_is_accepted, legal_guests}
 use Rattle.guest_rules.specs.GuestState.{GuestState, opening_guest}
-use Rattle.cmm_world.specs.WorldState.{WorldState, opening_world, guest_at, no_plan}
+use Rattle.cmm_types.specs.NoPlan.{no_plan}
+use Rattle.cmm_world.specs.WorldState.{WorldState, opening_world, guest_at}
 use Rattle.cmm_world.specs.WorldView.{WorldView, plans_of, discards_of}
 use Rattle.cmm_world.specs.Run.{world_step, answers_of, run_of}
 use Rattle.cmm2_cli.specs.Playing.{HasPlayed}

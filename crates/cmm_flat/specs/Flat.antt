@@ -40,8 +40,8 @@ in_mapping off len mapping = nat_le (off + len) (length_of mapping)
 abbrev pub has_page : ℕ → Mapping → Bool
 has_page page mapping = nat_lt page (length mapping.pins)
 
-abbrev pub is_pinned : ℕ → Mapping → Bool
-is_pinned page mapping = get_or mapping.pins page false
+abbrev pub pins_page : ℕ → Mapping → Bool
+pins_page page mapping = get_or mapping.pins page false
 
 abbrev pub has_pin : Mapping → Bool
 has_pin mapping = list_any (λ pin. pin) mapping.pins
@@ -71,12 +71,12 @@ refusals state process (Pin number page) =
     let mapping = mapping_at state process number in
     (not (is_some mapping), NoMapping)
     ∷ (not (of_live (has_page page) mapping), OutOfRange)
-    ∷ (of_live (is_pinned page) mapping, Pinned) ∷ []
+    ∷ (of_live (pins_page page) mapping, Pinned) ∷ []
 refusals state process (Unpin number page) =
     let mapping = mapping_at state process number in
     (not (is_some mapping), NoMapping)
     ∷ (not (of_live (has_page page) mapping), OutOfRange)
-    ∷ (not (of_live (is_pinned page) mapping), NotPinned) ∷ []
+    ∷ (not (of_live (pins_page page) mapping), NotPinned) ∷ []
 
 abbrev pub first_refusal : List (Bool × FlatRefusal) → Option FlatRefusal
 first_refusal [] = None

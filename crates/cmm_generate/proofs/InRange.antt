@@ -18,7 +18,7 @@ use Rattle.cmm_types.specs.InRange.{IsPiece, OpInRange, FileInRange, CpuInRange,
 use Rattle.cmm_scenario.specs.Spelling.{WritesBytes}
 use Rattle.cmm_generate.specs.Writes.{WritesGuest, WritesScenario}
 use Rattle.cmm_generate.specs.Draws.{Draw, give, below, in_turn, single, times}
-use Rattle.cmm_generate.specs.Generated.{file, files, place, count, some_bytes, read, write, sync, load, store, of_kind, command, commands, guest_of, cpu_of, commands_of, discards_after, reclaims_after, events, schedule, cpu_plan, guest_plan, plan, generated}
+use Rattle.cmm_generate.specs.Generated.{file, files, place, count, some_bytes, read, write, sync, load, store, of_kind, command, commands, guest_in_turn, cpu_in_turn, commands_of, discards_after, reclaims_after, events, schedule, cpu_plan, guest_plan, plan, generated}
 
 below_limit : (limit number : ℕ) → 0 < limit → (below limit number).value < limit
 unfolding below
@@ -135,17 +135,17 @@ keep_if P false op rest p each = each
 chosen_all : (guest cpu : ℕ) (P : Op → Type 0) (j : ℕ) (ops : List Op) → All P ops → All P (commands_of guest cpu j ops)
 chosen_all guest cpu P j [] each = All-nil P
 chosen_all guest cpu P j (op ∷ ops) each =
-    keep_if P (guest_of j == guest && cpu_of j == cpu) op (commands_of guest cpu (suc j) ops) (All-head P op ops each) (chosen_all guest cpu P (suc j) ops (All-tail P op ops each))
+    keep_if P (guest_in_turn j == guest && cpu_in_turn j == cpu) op (commands_of guest cpu (suc j) ops) (All-head P op ops each) (chosen_all guest cpu P (suc j) ops (All-tail P op ops each))
 
 -- one command more, where the rest has few
 one_more_command : (guest cpu j wait : ℕ) (op : Op) (ops : List Op) → guest < 2 → cpu < 2 → wait < 4 → (j + wait) % 4 ≡ 2 * guest + cpu
     → ((next : ℕ) → next < 4 → (suc j + next) % 4 ≡ 2 * guest + cpu → 4 * length (commands_of guest cpu (suc j) ops) + next ≤ length ops + 3)
     → 4 * length (commands_of guest cpu j (op ∷ ops)) + wait ≤ length (op ∷ ops) + 3
-one_more_command guest cpu j wait op ops g c w at few = go (guest_of j == guest && cpu_of j == cpu) refl
+one_more_command guest cpu j wait op ops g c w at few = go (guest_in_turn j == guest && cpu_in_turn j == cpu) refl
   where
-    go : (b : Bool) → (guest_of j == guest && cpu_of j == cpu) ≡ b → 4 * length (if b then op ∷ commands_of guest cpu (suc j) ops else commands_of guest cpu (suc j) ops) + wait ≤ length (op ∷ ops) + 3
+    go : (b : Bool) → (guest_in_turn j == guest && cpu_in_turn j == cpu) ≡ b → 4 * length (if b then op ∷ commands_of guest cpu (suc j) ops else commands_of guest cpu (suc j) ops) + wait ≤ length (op ∷ ops) + 3
     go true its =
-        let parts = and_parts (guest_of j == guest) (cpu_of j == cpu) its in
+        let parts = and_parts (guest_in_turn j == guest) (cpu_in_turn j == cpu) its in
         let is_guest = eqb-true _ _ parts.0 in
         let is_cpu = eqb-true _ _ parts.1 in
         let rest = few 3 (omega arith) (omega (arith, is_guest, is_cpu, g, c)) in
@@ -156,9 +156,9 @@ one_more_command guest cpu j wait op ops g c w at few = go (guest_of j == guest 
               let rest = few (wait - 1) (omega (arith, w, later)) (omega (arith, at, later)) in
               omega (arith, rest, later)
           | inr now ↦
-              let is_guest : (guest_of j == guest) ≡ true = eq-eqb _ _ (omega (arith, at, now, g, c)) in
-              let is_cpu : (cpu_of j == cpu) ≡ true = eq-eqb _ _ (omega (arith, at, now, g, c)) in
-              absurd (true≢false (sym (and_from (guest_of j == guest) (cpu_of j == cpu) is_guest is_cpu) ∙ others))
+              let is_guest : (guest_in_turn j == guest) ≡ true = eq-eqb _ _ (omega (arith, at, now, g, c)) in
+              let is_cpu : (cpu_in_turn j == cpu) ≡ true = eq-eqb _ _ (omega (arith, at, now, g, c)) in
+              absurd (true≢false (sym (and_from (guest_in_turn j == guest) (cpu_in_turn j == cpu) is_guest is_cpu) ∙ others))
         ]
 
 -- the processor's next command is `wait` commands on
@@ -251,7 +251,7 @@ module _ (one two : GuestPlan) (cpus_one : length one.cpus ≡ 2) (cpus_two : le
   unfolding events
   events_in_range j number =
       All-cons Names _ _
-      (has_guest one two (λ plan. cpu_of j < length plan.cpus) (guest_of j) (omega arith) (omega (arith, cpus_one)) (omega (arith, cpus_two)))
+      (has_guest one two (λ plan. cpu_in_turn j < length plan.cpus) (guest_in_turn j) (omega arith) (omega (arith, cpus_one)) (omega (arith, cpus_two)))
       (All-append Names (discards_after j number).value (reclaims_after j) (discards_in_range j number) (reclaims_in_range j))
 
   schedule_in_range : (size number : ℕ) → All Names (schedule size number).value

@@ -85,16 +85,16 @@ of_kind kind =
     else store 1
 
 -- the guest and the processor of command j, in turn
-abbrev pub guest_of : ℕ → ℕ
-guest_of j = j % 4 / 2
+abbrev pub guest_in_turn : ℕ → ℕ
+guest_in_turn j = j % 4 / 2
 
-abbrev pub cpu_of : ℕ → ℕ
-cpu_of j = j % 2
+abbrev pub cpu_in_turn : ℕ → ℕ
+cpu_in_turn j = j % 2
 
 -- command j: each processor maps a file first and memory of its own next
 unfoldable pub command : ℕ → Draw Op
 command j =
-    if nat_lt j 4 then give (MapFile 0 (cpu_of j) 0 8 true)
+    if nat_lt j 4 then give (MapFile 0 (cpu_in_turn j) 0 8 true)
     else if nat_lt j 8 then give (MapAnon 1 8)
     else (do
       kind ← below 10
@@ -108,7 +108,7 @@ commands size = in_turn (λ j. single (command j)) size
 abbrev pub commands_of : (guest cpu j : ℕ) → List Op → List Op
 commands_of guest cpu j [] = []
 commands_of guest cpu j (op ∷ ops) =
-    if guest_of j == guest && cpu_of j == cpu then op ∷ commands_of guest cpu (suc j) ops else commands_of guest cpu (suc j) ops
+    if guest_in_turn j == guest && cpu_in_turn j == cpu then op ∷ commands_of guest cpu (suc j) ops else commands_of guest cpu (suc j) ops
 
 -- ---- events
 
@@ -129,7 +129,7 @@ reclaims_after j = if j % 16 == 15 then Reclaim 4 ∷ [] else []
 unfoldable pub events : ℕ → Draw (List Event)
 events j = do
   discards ← discards_after j
-  give (Alone (guest_of j) (cpu_of j) ∷ (discards ++ reclaims_after j))
+  give (Alone (guest_in_turn j) (cpu_in_turn j) ∷ (discards ++ reclaims_after j))
 
 -- the events of so many commands
 abbrev pub schedule : ℕ → Draw (List Event)

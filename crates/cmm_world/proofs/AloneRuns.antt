@@ -28,7 +28,8 @@ use Rattle.guest_rules.specs.Fit.{Fit}
 use Rattle.guest_rules.specs.Cause.{AloneCause}
 use Rattle.guest_rules.proofs.TurnLaws.{Causes-alone}
 use Rattle.guest_core.proofs.AloneDiscards.{stopped_at, finished_at, waits_at}
-use Rattle.cmm_world.specs.WorldState.{WorldState, guest_at, disk_at, no_plan}
+use Rattle.cmm_types.specs.NoPlan.{no_plan}
+use Rattle.cmm_world.specs.WorldState.{WorldState, guest_at, disk_at}
 use Rattle.cmm_world.specs.WorldFit.{IsWorld}
 use Rattle.cmm_world.specs.Run.{turned, turn_step, turns_on, turns_after, alone_step, world_step, answers_of, world_after}
 use Rattle.cmm_world.specs.Exec.{exec}

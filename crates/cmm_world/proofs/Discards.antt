@@ -7,7 +7,7 @@ use Rattle.std.proofs.lemmas.List.Sums.{sum_by_more}
 use Rattle.essa_state.specs.declared.fields.Fields.{Fields}
 use Rattle.essa_state.specs.StateWord.{opening_word}
 use Rattle.host_plain.specs.HostState.{first_place, pages_of}
-use Rattle.guest_rules.specs.Fit.{sum_below}
+use Rattle.cmm_types.specs.Sums.{sum_below}
 use Rattle.cmm_world.specs.WorldState.{WorldState, guest_at}
 use Rattle.cmm_world.specs.WorldView.{discards_of}
 use Rattle.cmm_world.specs.WorldFit.{WorldFit}

@@ -7,7 +7,8 @@ use Rattle.cmm_types.specs.declared.plan.GuestPlan.{GuestPlan}
 use Rattle.cmm_types.specs.InRange.{GuestHas}
 use Rattle.host_plain.specs.HostState.{pages_of}
 use Rattle.guest_rules.specs.GuestState.{GuestState, opening_guest}
-use Rattle.cmm_world.specs.WorldState.{WorldState, guest_at, no_plan}
+use Rattle.cmm_types.specs.NoPlan.{no_plan}
+use Rattle.cmm_world.specs.WorldState.{WorldState, guest_at}
 use Rattle.cmm_world.specs.WorldView.{plans_of}
 use Rattle.cmm_world.specs.WorldFit.{IsWorld}
 

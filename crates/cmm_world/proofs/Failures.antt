@@ -17,7 +17,8 @@ use Rattle.host_plain.specs.Keeping.{faults_of}
 use Rattle.host_plain.proofs.PagerCalls.{touched_page-keeps}
 use Rattle.guest_rules.specs.GuestState.{GuestState, opening_guest}
 use Rattle.guest_rules.specs.Failures.{FailuresFit, paging_failures}
-use Rattle.cmm_world.specs.WorldState.{WorldState, guest_at, disk_at, no_plan}
+use Rattle.cmm_types.specs.NoPlan.{no_plan}
+use Rattle.cmm_world.specs.WorldState.{WorldState, guest_at, disk_at}
 use Rattle.cmm_world.specs.WorldFit.{IsWorld, view_of}
 use Rattle.cmm_world.specs.Failures.{AreCounted, WorldCounted}
 use Rattle.cmm_world.specs.Exec.{exec, call_answered, after_write}

@@ -12,7 +12,8 @@ use Rattle.guest_rules.specs.Fit.{Fit}
 use Rattle.host_plain.proofs.Others.{places-apart}
 use Rattle.guest_rules.proofs.Cases.TurnCases.{AllMay}
 use Rattle.guest_rules.proofs.Fit.FitMay.{FitAt-may}
-use Rattle.cmm_world.specs.WorldState.{WorldState, guest_at, disk_at, no_plan}
+use Rattle.cmm_types.specs.NoPlan.{no_plan}
+use Rattle.cmm_world.specs.WorldState.{WorldState, guest_at, disk_at}
 use Rattle.cmm_world.specs.Failures.{AreCounted, WorldCounted}
 use Rattle.cmm_world.specs.WorldFit.{IsWorld}
 

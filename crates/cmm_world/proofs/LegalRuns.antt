@@ -1,17 +1,15 @@
 -- A world that played a plan's schedule shows that the plan's run is legal.
-use Rattle.std.specs.Prelude.{◌≡◌, ◌≤◌, List, [], ◌∷◌, length, map}
+use Rattle.std.specs.Prelude.{◌≡◌, List, [], ◌∷◌, length, map}
 use Rattle.std.proofs.Common.{refl, sym, ap, subst, arith, ◌∙◌}
 use Rattle.std.proofs.lemmas.List.{length-map}
 use Rattle.cmm_types.specs.declared.plan.GuestPlan.{GuestPlan}
 use Rattle.cmm_types.specs.declared.plan.Scenario.{Scenario}
 use Rattle.cmm_io.specs.FailurePlan.{FailurePlan}
 use Rattle.cmm_io.specs.DiskState.{DiskState}
-use Rattle.cmm_io.specs.Counted.{distinct}
-use Rattle.cmm_io.proofs.Counted.{counted-most, distinct-none}
-use Rattle.cmm_flat.specs.Legal.{Legal, start_of}
+use Rattle.cmm_flat.specs.Legal.{Legal}
 use Rattle.guest_rules.specs.GuestState.{GuestState, opening_guest}
-use Rattle.guest_rules.specs.Failures.{disk_failures, paging_failures}
-use Rattle.guest_rules.proofs.Causes.FailuresKept.{flat_replies}
+use Rattle.guest_rules.specs.FailsAsPlanned.{FailsAsPlanned}
+use Rattle.guest_rules.proofs.Causes.FailuresKept.{fails_as_planned}
 use Rattle.cmm_world.specs.WorldState.{opening_world}
 use Rattle.cmm_world.specs.WorldView.{WorldView, opening_view, plans_of}
 use Rattle.cmm_world.specs.WorldFit.{WorldFit, KeepsWorld}
@@ -20,7 +18,7 @@ use Rattle.cmm_world.specs.Run.{run_of}
 use Rattle.cmm_world.specs.Steps.{IsStepByStep, AtEach}
 use Rattle.cmm_world.specs.Reached.{ReachesPages}
 use Rattle.cmm_world.specs.Lacking.{LacksRightly}
-use Rattle.cmm_world.specs.Headline.{FailsAsPlanned, IsLegalRun}
+use Rattle.cmm_world.specs.Headline.{IsLegalRun}
 use Rattle.cmm_world.proofs.Discards.{faults_few}
 
 opening_plans : (guests : List GuestPlan) → map (λ (g : GuestState). g.plan) (map opening_guest guests) ≡ guests
@@ -33,19 +31,9 @@ unfolding opening_world
 plans_opening plan = opening_plans plan.guests
 
 -- no more commands failed than calls, and no more calls than were planned to
-fails_as_planned : (g : GuestState) (d : DiskState) (pager : FailurePlan) → Legal g.plan g.journal → AreCounted g d pager → FailsAsPlanned g
-fails_as_planned g d pager legal counted = record {
-  by_disk = by_disk;
-  by_pager = by_pager;
-  flat = λ none_disk none_pager.
-      flat_replies g.plan (start_of g.plan) g.journal legal (omega (arith, by_disk, distinct-none g.plan.disk_fail none_disk)) (omega (arith, by_pager, distinct-none g.plan.pager_fail none_pager));
-}
-  where
-    by_disk : disk_failures g.journal ≤ distinct g.plan.disk_fail
-    by_disk = omega (arith, counted.by_disk, counted-most g.plan.disk_fail d.failures counted.disk_calls)
-
-    by_pager : paging_failures g.journal ≤ distinct g.plan.pager_fail
-    by_pager = omega (arith, counted.by_pager, counted-most g.plan.pager_fail pager counted.pager_calls)
+counted_planned : (g : GuestState) (d : DiskState) (pager : FailurePlan) → Legal g.plan g.journal → AreCounted g d pager → FailsAsPlanned g.plan g.journal
+counted_planned g d pager legal counted =
+    fails_as_planned g.plan g.journal d.failures pager legal counted.by_disk (omega (arith, counted.by_pager)) counted.disk_calls counted.pager_calls
 
 -- a world that played the schedule, kept what it must, and did each event as its single steps
 pub legal_run : (plan : Scenario) (v : WorldView) → v.state ≡ (run_of plan).1 → KeepsWorld (opening_view plan) v → AtEach IsStepByStep (opening_world plan) plan.schedule
@@ -64,5 +52,5 @@ legal_run plan v state keeps steps reached lacks =
       reached = reached;
       lacks = lacks;
       faults = λ guest below. faults_few x guest fit (rw count below);
-      failures = λ guest below. fails_as_planned _ _ _ (fit guest (rw count below)).journal.legal (failures guest (rw count below));
+      failures = λ guest below. counted_planned _ _ _ (fit guest (rw count below)).journal.legal (failures guest (rw count below));
     }

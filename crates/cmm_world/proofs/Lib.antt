@@ -1,5 +1,4 @@
 pub mod ExecRuns
-pub mod Carried
 pub mod Kept
 pub mod Failures
 pub mod Discards

@@ -5,7 +5,7 @@ use Rattle.std.proofs.lemmas.List.{get_or-map, length-map}
 use Rattle.cmm_types.specs.declared.plan.GuestPlan.{GuestPlan}
 use Rattle.cmm_types.specs.declared.plan.Scenario.{Scenario}
 use Rattle.cmm_types.specs.InRange.{ScenarioInRange, GuestInRange}
-use Rattle.cmm_io.specs.DiskState.{DiskState, disk_view}
+use Rattle.cmm_io.specs.DiskState.{DiskState, disk_view, opening_disk}
 use Rattle.cmm_io.specs.FailurePlan.{failure_plan_of}
 use Rattle.cmm_io.proofs.DiskBlocks.{length-disk_of}
 use Rattle.cmm_io.proofs.Counted.{counted-opening}
@@ -19,7 +19,8 @@ use Rattle.guest_rules.specs.GuestState.{GuestState, opening_guest}
 use Rattle.essa_state.specs.PageValue.{opening_value}
 use Rattle.guest_rules.specs.Fit.{Fit}
 use Rattle.guest_rules.proofs.Opening.Opening.{Fit-opening}
-use Rattle.cmm_world.specs.WorldState.{WorldState, guest_at, disk_at, no_plan, opening_disk, opening_host, opening_world}
+use Rattle.cmm_types.specs.NoPlan.{no_plan}
+use Rattle.cmm_world.specs.WorldState.{WorldState, guest_at, disk_at, opening_host, opening_world}
 use Rattle.cmm_world.specs.WorldFit.{IsWorld}
 use Rattle.cmm_world.specs.Failures.{AreCounted}
 

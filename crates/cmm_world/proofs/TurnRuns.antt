@@ -31,14 +31,15 @@ use Rattle.guest_rules.specs.Cause.{TurnCause, ReplyCause, LacksPage, NoWrongDis
 use Rattle.guest_rules.proofs.TurnLaws.{Fit-turn, Causes-turn, Discards-turn, plan-turn}
 use Rattle.guest_rules.specs.Failures.{FailuresFit}
 use Rattle.guest_rules.proofs.Causes.FailuresKept.{Failures-turn}
-use Rattle.cmm_world.specs.WorldState.{WorldState, guest_at, disk_at, no_plan}
+use Rattle.cmm_types.specs.NoPlan.{no_plan}
+use Rattle.cmm_world.specs.WorldState.{WorldState, guest_at, disk_at}
 use Rattle.cmm_world.specs.WorldFit.{IsWorld, view_of}
 use Rattle.cmm_world.specs.Run.{turn_step, turned}
 use Rattle.cmm_world.specs.Steps.{NoWrongDiscards}
 use Rattle.cmm_world.specs.Reached.{HasReached, WasReached, Enters, world_word}
 use Rattle.cmm_world.specs.Lacking.{IsOutOfPages, LacksPages}
 use Rattle.cmm_world.proofs.ExecRuns.{does_exec}
-use Rattle.cmm_world.proofs.Carried.{carried}
+use Rattle.cmm_storage.specs.Laws.CarriedLaws.{storage_carried}
 use Rattle.cmm_world.proofs.Failures.{PlansKept, plans_kept, failures_fit, counted_turn}
 use Rattle.cmm_world.proofs.Kept.{KeepsOthers, KeepsOthers-same, KeepsOthers-trans, MovesKeep, keeps_others, kept_turn}
 use Rattle.cmm_world.proofs.EntryTurns.{IsAnswer, IsLocated, IsMapped, one_more, same_entry, turn_located, load_mapped, store_mapped}
@@ -269,7 +270,7 @@ module _ {S D : Type 0} (ss : S → StorageCall → S → Type 0) (ds : D → Di
 
   keeps : (g : GuestState) (cpu : ℕ) (s : S) (d : D) (h : GuestState) (r : Turn) (t : S) (e : D) → Does ss ds (turn g cpu) s d (h, r) t e → KeepsOthers (sv s) (sv t)
   keeps g cpu s d h r t e run =
-      carried ss ds (λ s t. KeepsOthers (sv s) (sv t)) (λ s t same. KeepsOthers-same (sv s) (sv t) (ap sv same)) (λ s m t. KeepsOthers-trans (sv s) (sv m) (sv t))
+      storage_carried ss ds (λ s t. KeepsOthers (sv s) (sv t)) (λ s t same. KeepsOthers-same (sv s) (sv t) (ap sv same)) (λ s m t. KeepsOthers-trans (sv s) (sv m) (sv t))
       (λ s call t q. keeps_others (sv s) (page_called call) (sv t) (sl s call t q)) (turn g cpu) s d (h, r) t e run
 
   -- the page of a load or a store that the guest's turn entered

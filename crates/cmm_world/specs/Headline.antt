@@ -1,24 +1,14 @@
 -- What stands of every run: the headline.
-use Rattle.std.specs.Prelude.{◌≡◌, ◌<◌, ◌≤◌, ℕ, [], length}
+use Rattle.std.specs.Prelude.{◌≡◌, ◌<◌, ◌≤◌, ℕ, length}
 use Rattle.cmm_types.specs.declared.plan.Scenario.{Scenario}
 use Rattle.cmm_flat.specs.Legal.{Legal}
-use Rattle.cmm_io.specs.Counted.{distinct}
-use Rattle.guest_rules.specs.GuestState.{GuestState}
-use Rattle.guest_rules.specs.Failures.{disk_failures, paging_failures}
-use Rattle.guest_rules.specs.FlatReplies.{HasFlatReplies}
+use Rattle.guest_rules.specs.FailsAsPlanned.{FailsAsPlanned}
 use Rattle.cmm_world.specs.WorldState.{guest_at, opening_world}
 use Rattle.cmm_world.specs.WorldView.{plans_of, discards_of}
 use Rattle.cmm_world.specs.Run.{run_of}
 use Rattle.cmm_world.specs.Steps.{IsStepByStep, AtEach}
 use Rattle.cmm_world.specs.Reached.{ReachesPages}
 use Rattle.cmm_world.specs.Lacking.{LacksRightly}
-
--- at most as many commands failed for the disk, and for the pager, as different calls of it are planned to fail; so where none is, each reply is
--- the flat machine's, or tells of the want of a page
-pub record FailsAsPlanned (g : GuestState) : Type 0 where
-  pub by_disk : disk_failures g.journal ≤ distinct g.plan.disk_fail
-  pub by_pager : paging_failures g.journal ≤ distinct g.plan.pager_fail
-  pub flat : g.plan.disk_fail ≡ [] → g.plan.pager_fail ≡ [] → HasFlatReplies g.plan g.journal
 
 -- each guest's journal is one legal history of the flat machine, each command once and in its processor's order; each event is its single
 -- steps, none of which discards a page that the guest needs; each load and store that was answered had reached its page; each command that
@@ -31,4 +21,4 @@ pub record IsLegalRun (plan : Scenario) : Type 0 where
   pub reached : AtEach ReachesPages (opening_world plan) plan.schedule
   pub lacks : AtEach LacksRightly (opening_world plan) plan.schedule
   pub faults : (guest : ℕ) → guest < length plan.guests → (guest_at (run_of plan).1 guest).parts.faults ≤ discards_of (run_of plan).1 guest
-  pub failures : (guest : ℕ) → guest < length plan.guests → FailsAsPlanned (guest_at (run_of plan).1 guest)
+  pub failures : (guest : ℕ) → guest < length plan.guests → FailsAsPlanned (guest_at (run_of plan).1 guest).plan (guest_at (run_of plan).1 guest).journal

@@ -3,8 +3,9 @@ use Rattle.std.specs.Prelude.{ℕ, List, [], map, replicate, slice_index_or}
 use Rattle.cmm_types.specs.declared.plan.GuestPlan.{GuestPlan}
 use Rattle.cmm_types.specs.declared.plan.Scenario.{Scenario}
 use Rattle.cmm_types.specs.InRange.{guest_pages_of}
+use Rattle.cmm_types.specs.NoPlan.{no_plan}
 use Rattle.cmm_io.specs.FailurePlan.{failure_plan_of}
-use Rattle.cmm_io.specs.DiskState.{DiskState, opened}
+use Rattle.cmm_io.specs.DiskState.{DiskState, opened, opening_disk}
 use Rattle.cmm_types.specs.Bytes.{zero_page}
 use Rattle.host_plain.specs.HostState.{HostState, host_opening}
 use Rattle.guest_rules.specs.GuestState.{GuestState, opening_guest}
@@ -14,18 +15,11 @@ pub record WorldState : Type 0 where
   pub disks : List DiskState
   pub host : HostState
 
-abbrev pub no_plan : GuestPlan
-no_plan = record { pages = 0; swap = 0; files = []; disk_fail = []; pager_fail = []; cpus = [] }
-
 abbrev pub guest_at : WorldState → ℕ → GuestState
 guest_at w guest = slice_index_or w.guests guest (opening_guest no_plan)
 
 abbrev pub disk_at : WorldState → ℕ → DiskState
 disk_at w guest = slice_index_or w.disks guest (opened [] 0 [])
-
--- a guest's disk: its files and swap slots, with the calls that are planned to fail
-abbrev pub opening_disk : GuestPlan → DiskState
-opening_disk plan = opened plan.files plan.swap plan.disk_fail
 
 -- one block of the paging store a page, each of zeros; a pager for each guest and one for the host's own moves
 abbrev pub opening_host : Scenario → HostState

@@ -3,7 +3,8 @@ use Rattle.std.proofs.Common.{◌≡◌, ℕ, zero, suc, ◌+◌, ◌<◌, ◌�
 use mathlib.Core.Option.{some}
 use lib.ListN.{get_elem?}
 use Rattle.page_arena.specs.FrameView.{RegionView}
-use Rattle.frame_pool.specs.Totals.{total, below}
+use Rattle.cmm_types.specs.Sums.{sum_below}
+use Rattle.frame_pool.specs.Totals.{total}
 use Rattle.frame_pool.specs.PoolRule.{Homes, only, named_once, names, lent_once, lent, WordFits, SlotFits, PoolRule}
 use Rattle.frame_pool.specs.declared.view.PoolView.{PoolView}
 use Rattle.frame_pool.specs.declared.view.Named.{Named}
@@ -30,7 +31,7 @@ lent_is_named i (Pair k l) = omega arith
 lent_is_named i Spent = omega arith
 
 -- who lends, lends words below n
-lends_one : (homes : Homes) (n : ℕ) (d : Named) → SlotFits homes n d → below (λ i. lent_as i d) n ≡ lent_once d
+lends_one : (homes : Homes) (n : ℕ) (d : Named) → SlotFits homes n d → sum_below (λ i. lent_as i d) n ≡ lent_once d
 lends_one homes n Idle fits = below-none n
 lends_one homes n (Taken k) fits = below-none n
 lends_one homes n (Lent k) fits = (below-only k n).0 fits.0
@@ -38,7 +39,7 @@ lends_one homes n (Pair k l) fits = omega (arith, below-add (λ i. only i k) (λ
 lends_one homes n Spent fits = below-none n
 
 -- the frames lent, word by word
-lent_words : (homes : Homes) (n : ℕ) (vs : List PoolView) → ((j : ℕ) (v : PoolView) → get_elem? vs j ≡ some v → SlotFits homes n v.named) → below (λ i. total (lends_word i) vs) n ≡ total lent vs
+lent_words : (homes : Homes) (n : ℕ) (vs : List PoolView) → ((j : ℕ) (v : PoolView) → get_elem? vs j ≡ some v → SlotFits homes n v.named) → sum_below (λ i. total (lends_word i) vs) n ≡ total lent vs
 lent_words homes n [] fits = below-none n
 lent_words homes n (v ∷ vs) fits =
     omega (arith, below-add (λ i. lends_word i v) (λ i. total (lends_word i) vs) n, lends_one homes n v.named (fits 0 v refl), lent_words homes n vs (λ j u e. fits (suc j) u e))

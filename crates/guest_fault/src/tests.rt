@@ -4,7 +4,7 @@ ghost use Rattle.cmm_types.specs.InRange.{FileInRange};
 ghost use Rattle.cmm_types.specs.declared.page.Tag.TheVariants.{Anon};
 ghost use Rattle.guest_cache.specs.CacheView.{IsTag, backing_of};
 ghost use Rattle.guest_maps.specs.MapsView.{IsPlace};
-ghost use Rattle.guest_rules.specs.Calls.{HasOneSwapSlot};
+ghost use Rattle.guest_cache.specs.CacheView.{HasOneSwapSlot};
 
 use crate::{fill, resolve, tear_page};
 use cmm_io::MemDisk;

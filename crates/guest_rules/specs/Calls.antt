@@ -11,7 +11,7 @@ use Rattle.cmm_io.specs.DiskView.{DiskView}
 use Rattle.essa_state.specs.StateWord.{is_unused}
 use Rattle.cmm_storage.specs.StorageView.{StorageView, can_store}
 use Rattle.guest_pages.specs.PagesView.{info_at}
-use Rattle.guest_cache.specs.CacheView.{CacheView, IsTag}
+use Rattle.guest_cache.specs.CacheView.{HasOneSwapSlot, IsTag}
 use Rattle.guest_maps.specs.declared.slot.Pte.{Pte}
 use Rattle.guest_maps.specs.MapsView.{IsPlace}
 use Rattle.guest_rules.specs.declared.parts.Parts.{Parts}
@@ -91,10 +91,6 @@ pub record CanPin (parts : Parts) (page slot index : ℕ) (pins : Bool) : Type 0
   pub some : pins ≡ false → 1 ≤ (info_at parts.pages page).pins
 
 -- ---- a page of a mapping of pages of its own
-
--- no tag has two swap slots
-pub record HasOneSwapSlot (cache : CacheView) : Type 0 where
-  pub same : (number other : ℕ) (tag : Tag) → slice_index_or cache.swap number None ≡ Some tag → slice_index_or cache.swap other None ≡ Some tag → number ≡ other
 
 -- it can be taken off the mapping, with its swap slot: the page has the tag of its place, and isn't locked
 pub record CanTear (parts : Parts) (v : StorageView) (slot index page : ℕ) : Type 0 where

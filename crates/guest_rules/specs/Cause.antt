@@ -30,7 +30,7 @@ use Rattle.guest_rules.specs.GuestState.{GuestState, processor_at, with_parts, e
 use Rattle.guest_rules.specs.Rows.{dirtied}
 use Rattle.guest_rules.specs.MakeRoom.{first_to_go, first_locked, pinned_count}
 use Rattle.guest_rules.specs.Stuck.{IsStuck, NeedsFreePage}
-use Rattle.guest_rules.specs.Fit.{IsKept, backing, current}
+use Rattle.guest_rules.specs.Fit.{IsKept, IsUntagged, backing, current}
 use Rattle.guest_rules.specs.Alone.{turns_of}
 use Rattle.guest_rules.specs.Turns.{file_pages, mapping_pages}
 
@@ -177,10 +177,11 @@ pub record HasUnmapped (g : GuestState) (cpu : ℕ) (h : GuestState) : Type 0 wh
   pub phase : (processor_at h cpu).phase ≡ Teardown slot 0
   pub gone : find_slot h.parts.maps (process_of g.plan cpu) number ≡ None
 
--- page `index` of a slot's mapping was taken off: its place has no entry
+-- page `index` of a slot's mapping was taken off: its place has no entry, and neither a page nor a swap slot has the tag of its own page
 pub record HasTorn (g : GuestState) (cpu slot index : ℕ) (h : GuestState) : Type 0 where
   pub phase : (processor_at g cpu).phase ≡ Teardown slot index
   pub cleared : entry_at h.parts.maps slot index ≡ None
+  pub untagged : IsUntagged h.parts.cache slot index
 
 -- an unmap that was answered took off its mapping's last page, and the slot is free: the processor goes on to its next command
 pub record HasTornDown (g : GuestState) (cpu : ℕ) (h : GuestState) : Type 0 where

@@ -17,6 +17,7 @@ use Rattle.cmm_flat.specs.declared.mapping.Mapping.{Mapping}
 use Rattle.cmm_flat.specs.declared.mapping.Shown.{Shown as FlatShown}
 use Rattle.cmm_flat.specs.declared.mapping.Shown.TheVariants.{OfFile as FlatFile, Anonymous}
 use Rattle.cmm_types.specs.Bytes.{bytes_at, zero_page}
+use Rattle.cmm_types.specs.Sums.{sum_below}
 use Rattle.cmm_flat.specs.State.{FlatState, IsSound, mapping_at, file_at}
 use Rattle.cmm_flat.specs.Legal.{Legal, flat_of, walk_of, start_of, progress_of, command_of, process_of}
 pub use Rattle.cmm_flat.specs.Legal.{all_commands}
@@ -24,7 +25,7 @@ use Rattle.cmm_io.specs.DiskView.{DiskView, AreBlocks}
 use Rattle.essa_state.specs.PageValue.{PageValue, Contents, Bytes, Blank, Lost, IsValue, is_lost, is_blank}
 use Rattle.cmm_storage.specs.StorageView.{StorageView}
 use Rattle.guest_pages.specs.PagesView.{info_at, free_info, AreDistinct}
-use Rattle.guest_cache.specs.CacheView.{CacheView, IsTag, IsAnonymous, page_of, swap_slot, backing_of}
+use Rattle.guest_cache.specs.CacheView.{CacheView, HasOneSwapSlot, IsTag, IsAnonymous, page_of, swap_slot, backing_of}
 use Rattle.guest_maps.specs.declared.slot.Pte.{Pte}
 use Rattle.guest_maps.specs.declared.slot.Slot.{Slot}
 use Rattle.guest_maps.specs.declared.slot.Shown.{Shown}
@@ -123,11 +124,6 @@ pub record EntriesFit (parts : Parts) : Type 0 where
   pub entry : (slot index : ℕ) (pte : Pte) → index < MAX_MAPPING_PAGES → entry_at parts.maps slot index ≡ Some pte → IsEntry parts slot index pte
   pub writers : (page : ℕ) → (info_at parts.pages page).writers ≡ writers_showing parts.maps page
 
--- the sum of a number over the numbers below a count
-abbrev pub sum_below : (ℕ → ℕ) → ℕ → ℕ
-sum_below number zero = 0
-sum_below number (suc count) = sum_below number count + number count
-
 abbrev pub same_tag : Tag → Tag → Bool
 same_tag (File file index) (File other at) = file == other && index == at
 same_tag (File file index) (AnonTag other at) = false
@@ -177,7 +173,7 @@ IsUsedTag maps (AnonTag slot index) = IsOwnPage (slot_at maps slot) index
 pub record TagsFit (parts : Parts) (v : StorageView) : Type 0 where
   pub pages : (page : ℕ) (tag : Tag) → (info_at parts.pages page).tag ≡ Some tag → IsUsedTag parts.maps tag
   pub swapped : (number : ℕ) (tag : Tag) → slice_index_or parts.cache.swap number None ≡ Some tag → IsAnonymous tag × IsUsedTag parts.maps tag
-  pub distinct : (number other : ℕ) (tag : Tag) → slice_index_or parts.cache.swap number None ≡ Some tag → slice_index_or parts.cache.swap other None ≡ Some tag → number ≡ other
+  pub distinct : HasOneSwapSlot parts.cache
   pub written : (page slot index : ℕ) → page < v.pages → (info_at parts.pages page).tag ≡ Some (AnonTag slot index)
       → ((v.values page).changed ≡ true) ⊎ (1 ≤ (info_at parts.pages page).writers)
       → ((info_at parts.pages page).dirty ≡ true) ⊎ IsSome (swap_slot parts.cache (AnonTag slot index))
@@ -252,6 +248,10 @@ pub record LocksFit (g : GuestState) : Type 0 where
   pub locked : (cpu page : ℕ) → (info_at g.parts.pages page).owner ≡ Some cpu → HasLocked g cpu page
   pub stale : (page : ℕ) (tag : Tag) → (info_at g.parts.pages page).tag ≡ Some tag → (info_at g.parts.pages page).owner ≡ None → (info_at g.parts.pages page).uptodate ≡ true
 
+-- neither a page nor a swap slot has the tag of a page of a slot's own
+abbrev pub IsUntagged : CacheView → (slot index : ℕ) → Type 0
+IsUntagged cache slot index = (page_of cache (AnonTag slot index) ≡ None) × (swap_slot cache (AnonTag slot index) ≡ None)
+
 -- a processor whose unmap, which has been answered, is at a page of the mapping that was in a slot. The pages before it have no
 -- entry, and an anonymous one of them neither a page nor a swap slot
 pub record IsTearing (g : GuestState) (cpu slot index : ℕ) : Type 0 where
@@ -264,7 +264,7 @@ pub record IsTearing (g : GuestState) (cpu slot index : ℕ) : Type 0 where
   pub its : (mapping.process ≡ process_of g.plan cpu) × (mapping.map ≡ number)
   pub within : index < mapping.count
   pub past : (before : ℕ) → before < index → entry_at g.parts.maps slot before ≡ None
-  pub untagged : (before : ℕ) → before < index → (page_of g.parts.cache (AnonTag slot before) ≡ None) × (swap_slot g.parts.cache (AnonTag slot before) ≡ None)
+  pub untagged : (before : ℕ) → before < index → IsUntagged g.parts.cache slot before
 
 -- teardowns: a slot is being torn down exactly where one processor's unmap is at a page of it, and nothing of it is pinned
 pub record TeardownsFit (g : GuestState) : Type 0 where
@@ -358,8 +358,8 @@ pub record FlatFit (flat : FlatState) (g : GuestState) (v : StorageView) (d : Di
   pub pages : (tag : Tag) → IsFlatTag g.parts tag → flat_page flat g.parts.maps tag ≡ current g.parts v d tag
 
 -- how many commands a processor has
-abbrev pub commands_of : GuestPlan → ℕ → ℕ
-commands_of plan cpu = of (slice_get plan.cpus cpu)
+abbrev pub command_count : GuestPlan → ℕ → ℕ
+command_count plan cpu = of (slice_get plan.cpus cpu)
   where
     of : Option CpuPlan → ℕ
     of None = 0
@@ -391,7 +391,7 @@ own_pages (Some mapping) = of mapping.shown mapping.count
 pub record JournalFit (g : GuestState) : Type 0 where
   pub legal : Legal g.plan g.journal
   pub places : (cpu : ℕ) → cpu < length g.processors → (progress_of (walk_of g.plan (start_of g.plan) g.journal) cpu).next ≡ entries_of (processor_at g cpu)
-  pub within : (cpu : ℕ) → cpu < length g.processors → entries_of (processor_at g cpu) ≤ commands_of g.plan cpu
+  pub within : (cpu : ℕ) → cpu < length g.processors → entries_of (processor_at g cpu) ≤ command_count g.plan cpu
   pub counted : length g.journal ≡ sum_by entries_of g.processors
   pub ended : (cpu slot index : ℕ) → (processor_at g cpu).phase ≡ Teardown slot index
       → (progress_of (walk_of g.plan (start_of g.plan) g.journal) cpu).ended ≡ own_pages (slot_at g.parts.maps slot)

@@ -16,3 +16,4 @@ pub mod Fresh
 pub mod Meanwhile
 pub mod Failures
 pub mod FlatReplies
+pub mod FailsAsPlanned

@@ -15,7 +15,7 @@ use Rattle.essa_state.specs.Laws.PageValueLaws.{actual-is_value, ordered-value}
 use Rattle.essa_state.specs.Laws.WordLaws.{ordered-permitted}
 use Rattle.cmm_storage.specs.declared.storage.Trap.{Trap}
 use Rattle.cmm_storage.specs.declared.storage.Trap.TheVariants.{Discarded, Paging, NoFrame}
-use Rattle.cmm_storage.specs.Laws.HoldLaws.{actual-placed, after_order-content}
+use Rattle.cmm_storage.specs.Laws.HoldLaws.{actual-placed, after_order-content, resident-content, resident-contents, resident-bytes, stored-actual, lost-discarded, not-touched}
 use Rattle.cmm_storage.specs.StorageCall.{StorageCall, Take, Touch, Give, TakeChange, Fetch, Store, Put}
 use Rattle.cmm_storage.specs.StorageView.{Follows, Keeps, IsPlaced, bytes_of, content_after, stored_value}
 use Rattle.cmm_types.specs.Bytes.{with_bytes}
@@ -72,9 +72,6 @@ held-content h page held = ap (λ (p : Option ℕ). held_content h p) held
 same-content : (h k : HostState) (page : ℕ) → h.held ≡ Some page → k.held ≡ Some page → (host_word k page).content ≡ (host_word h page).content → (host_view k).content ≡ (host_view h).content
 same-content h k page before after same = held-content k page after ∙ same ∙ sym (held-content h page before)
 
-resident-content : (w : Fields) → is_resident w.content ≡ true → w.content ≡ Resident
-resident-content w h = grind arith
-
 give-follows : (h : HostState) (page : ℕ) (code : Order) → IsHost h → h.held ≡ Some page →
     Follows (host_view h) (Give page code (old_of (host_word h page) code)) (host_view (with_host_word h page (after_order (host_word h page) code)))
 give-follows h page code is held =
@@ -118,9 +115,6 @@ take_change-follows h page is held =
       same-content h (with_host_word h page word) page held held (ap (λ (w : Fields). w.content) (get_or-set_same m.words place word opening_word below)),
     )
 
-resident-bytes : (w : Fields) (body : Body) → is_resident w.content ≡ true → bytes_of (actual w body).contents ≡ frame_bytes body
-resident-bytes w body resident = rw (resident-content w resident) refl
-
 fetch-follows : (h : HostState) (page off : ℕ) (bytes : List ℕ) → IsHost h → h.held ≡ Some page → h.touched ≡ true →
     bytes ≡ take (length bytes) (drop off (host_bytes h page)) → Follows (host_view h) (Fetch page off bytes) (host_view h)
 fetch-follows h page off bytes is held touched read =
@@ -133,10 +127,6 @@ fetch-follows h page off bytes is held touched read =
       λ q. rw (resident-bytes (word_at m place) (body_at m place) (is.resident page held touched)) read,
       refl,
     )
-
-stored-actual : (w : Fields) (body : Body) (off : ℕ) (bytes : List ℕ) → is_resident w.content ≡ true →
-    actual (record w { changed = true }) (record body { frame = Some (with_bytes (frame_bytes body) off bytes) }) ≡ stored_value true (actual w body) off bytes
-stored-actual w body off bytes resident = rw (resident-content w resident) refl
 
 pub stored-other : (m : MemoryState) (place off : ℕ) (bytes : List ℕ) (k : ℕ) → k ≢ place → memory_value_at (stored_at m place off bytes) k ≡ memory_value_at m k
 stored-other m place off bytes k other =
@@ -178,16 +168,6 @@ put-follows h page is held =
       refl,
       word-same m place word below,
     )
-
-lost-discarded : (w : Fields) (body : Body) → is_lost (actual w body).contents ≡ is_discarded w
-lost-discarded w body = grind arith
-
-resident-contents : (w : Fields) (body : Body) → is_resident w.content ≡ true → (actual w body).contents ≡ Bytes (frame_bytes body)
-resident-contents w body resident = rw (resident-content w resident) refl
-
-not-touched : (touched resident : Bool) → (touched ≡ true → resident ≡ true) → resident ≡ false → touched ≡ false
-not-touched true resident before absent = sym (before refl) ∙ absent
-not-touched false resident before absent = refl
 
 touch-by : (h : HostState) (page : ℕ) (r : Result Unit Trap) (n : MemoryState) (pager : FailurePlan) → IsHost h → h.held ≡ Some page → TouchKeeps h.memory (list_place h page) n →
     TouchLeaves r h.memory (list_place h page) n → faults_of (pager_of h h.guest) ≤ faults_of pager → (r ≡ Err Paging → HasRisen (faults_of (pager_of h h.guest)) (faults_of pager)) →

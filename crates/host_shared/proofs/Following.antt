@@ -17,7 +17,7 @@ use Rattle.essa_state.specs.Laws.PageValueLaws.{actual-is_value, ordered-value}
 use Rattle.essa_state.specs.Laws.WordLaws.{ordered-permitted}
 use Rattle.cmm_storage.specs.declared.storage.Trap.{Trap}
 use Rattle.cmm_storage.specs.declared.storage.Trap.TheVariants.{Discarded, Paging, NoFrame}
-use Rattle.cmm_storage.specs.Laws.HoldLaws.{actual-placed, after_order-content}
+use Rattle.cmm_storage.specs.Laws.HoldLaws.{actual-placed, after_order-content, resident-content, resident-contents, resident-bytes, stored-actual, lost-discarded, not-touched}
 use Rattle.cmm_storage.specs.StorageCall.{Take, Touch, Give, TakeChange, Fetch, Store, Put}
 use Rattle.cmm_storage.specs.StorageView.{Follows, Keeps, IsPlaced, IsWhole, bytes_of, touched_contents, stored_value}
 use Rattle.state_words.specs.SeatView.{SeatView, Seated, SeatStep, Role, Guest, Host, Spent, Tried, Left, value_at, guest_values}
@@ -142,12 +142,6 @@ change seat h faults nf =
       refl,
     )
 
-resident-content : (w : Fields) → is_resident w.content ≡ true → w.content ≡ Resident
-resident-content w h = grind arith
-
-resident-bytes : (w : Fields) (body : Body) → is_resident w.content ≡ true → bytes_of (actual w body).contents ≡ frame_bytes body
-resident-bytes w body resident = rw (resident-content w resident) refl
-
 pub fetch : (seat : Seated) (h : HeldState) (off : ℕ) (bytes : List ℕ) (faults nf : ℕ) → IsHeldPage h → h.touched ≡ true → bytes ≡ take (length bytes) (drop off (frame_bytes (lent_body h.parts))) →
     Follows (seen_of seat (Some h) faults nf) (Fetch h.page off bytes) (seen_of seat (Some h) faults nf)
 fetch seat h off bytes faults nf is touched read =
@@ -161,10 +155,6 @@ fetch seat h off bytes faults nf is touched read =
       (λ q. read ∙ ap (λ (b : List ℕ). take (length bytes) (drop off b)) (sym all)),
       refl,
     )
-
-stored-actual : (w : Fields) (body : Body) (off : ℕ) (bytes : List ℕ) → is_resident w.content ≡ true →
-    actual (stored_word w) (stored_body body off bytes) ≡ stored_value true (actual w body) off bytes
-stored-actual w body off bytes resident = rw (resident-content w resident) refl
 
 pub store : (seat : Seated) (h h' : HeldState) (off : ℕ) (bytes : List ℕ) (faults nf : ℕ) → IsHeldPage h → h.touched ≡ true → h'.page ≡ h.page → h'.touched ≡ h.touched → h'.word ≡ stored_word h.word →
     lent_body h'.parts ≡ stored_body (lent_body h.parts) off bytes → Follows (seen_of seat (Some h) faults nf) (Store h.page off bytes) (seen_of seat (Some h') faults nf)
@@ -192,16 +182,6 @@ put seat h faults nf inside =
       refl,
       known-here seat.view.role h.page value inside ∙ sym (in-here h (guest_values seat.view.role)),
     )
-
-lost-discarded : (w : Fields) (body : Body) → is_lost (actual w body).contents ≡ is_discarded w
-lost-discarded w body = grind arith
-
-resident-contents : (w : Fields) (body : Body) → is_resident w.content ≡ true → (actual w body).contents ≡ Bytes (frame_bytes body)
-resident-contents w body resident = rw (resident-content w resident) refl
-
-not-touched : (touched resident : Bool) → (touched ≡ true → resident ≡ true) → resident ≡ false → touched ≡ false
-not-touched true resident before absent = sym (before refl) ∙ absent
-not-touched false resident before absent = refl
 
 whole_bytes : (loan : Option LoanView) → IfSome loan (λ l. length l.frame.bytes ≡ PAGE) → is_some (option_map (λ (l : LoanView). l.frame.bytes) loan) ≡ true →
     length (unwrap_or (option_map (λ (l : LoanView). l.frame.bytes) loan) []) ≡ PAGE

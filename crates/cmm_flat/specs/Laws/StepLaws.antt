@@ -17,7 +17,7 @@ use Rattle.cmm_types.specs.Bytes.{zeros, bytes_at}
 use Rattle.cmm_flat.specs.Mapping.{place_cmp, shows_writable, with_pin}
 use Rattle.cmm_flat.specs.Laws.PlaceLaws.{exact_places, places_total}
 use Rattle.cmm_flat.specs.State.{FlatState, place_of, mapping_at, file_at}
-use Rattle.cmm_flat.specs.Flat.{of_live, is_full, in_file, in_mapping, has_page, has_pin, is_pinned, first_refusal, refusal_of, loaded, with_file_bytes, with_mapping, without_mapping, stored, none_pinned, on_live, effect, unless_refused, flat_step}
+use Rattle.cmm_flat.specs.Flat.{of_live, is_full, in_file, in_mapping, has_page, has_pin, pins_page, first_refusal, refusal_of, loaded, with_file_bytes, with_mapping, without_mapping, stored, none_pinned, on_live, effect, unless_refused, flat_step}
 
 pub mapping_at-with_mapping : (state : FlatState) (process number : ℕ) (mapping : Mapping) → mapping_at (with_mapping state process number mapping) process number ≡ Some mapping
 mapping_at-with_mapping state process number mapping =
@@ -108,18 +108,18 @@ step_store state process number off bytes mapping at within writable =
     ∙ (λ i. first_refusal ((not (within i), OutOfRange) ∷ (not (writable i), ReadOnly) ∷ [])))
     ∙ ap (λ o. on_live state o (λ (m : Mapping). (stored state process number m m.shown off bytes, Done))) at
 
-pub step_pin : (state : FlatState) (process number page : ℕ) (mapping : Mapping) → mapping_at state process number ≡ Some mapping → has_page page mapping ≡ true → is_pinned page mapping ≡ false
+pub step_pin : (state : FlatState) (process number page : ℕ) (mapping : Mapping) → mapping_at state process number ≡ Some mapping → has_page page mapping ≡ true → pins_page page mapping ≡ false
     → flat_step state process (Pin number page) ≡ (with_mapping state process number (with_pin mapping page true), Done)
 step_pin state process number page mapping at within free =
     step_done state process (Pin number page)
-    (ap (λ o. first_refusal ((not (is_some o), NoMapping) ∷ (not (of_live (has_page page) o), OutOfRange) ∷ (of_live (is_pinned page) o, Pinned) ∷ [])) at
+    (ap (λ o. first_refusal ((not (is_some o), NoMapping) ∷ (not (of_live (has_page page) o), OutOfRange) ∷ (of_live (pins_page page) o, Pinned) ∷ [])) at
     ∙ (λ i. first_refusal ((not (within i), OutOfRange) ∷ (free i, Pinned) ∷ [])))
     ∙ ap (λ o. on_live state o (λ (m : Mapping). (with_mapping state process number (with_pin m page true), Done))) at
 
-pub step_unpin : (state : FlatState) (process number page : ℕ) (mapping : Mapping) → mapping_at state process number ≡ Some mapping → has_page page mapping ≡ true → is_pinned page mapping ≡ true
+pub step_unpin : (state : FlatState) (process number page : ℕ) (mapping : Mapping) → mapping_at state process number ≡ Some mapping → has_page page mapping ≡ true → pins_page page mapping ≡ true
     → flat_step state process (Unpin number page) ≡ (with_mapping state process number (with_pin mapping page false), Done)
 step_unpin state process number page mapping at within pinned =
     step_done state process (Unpin number page)
-    (ap (λ o. first_refusal ((not (is_some o), NoMapping) ∷ (not (of_live (has_page page) o), OutOfRange) ∷ (not (of_live (is_pinned page) o), NotPinned) ∷ [])) at
+    (ap (λ o. first_refusal ((not (is_some o), NoMapping) ∷ (not (of_live (has_page page) o), OutOfRange) ∷ (not (of_live (pins_page page) o), NotPinned) ∷ [])) at
     ∙ (λ i. first_refusal ((not (within i), OutOfRange) ∷ (not (pinned i), NotPinned) ∷ [])))
     ∙ ap (λ o. on_live state o (λ (m : Mapping). (with_mapping state process number (with_pin m page false), Done))) at

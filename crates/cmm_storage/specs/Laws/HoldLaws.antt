@@ -1,20 +1,21 @@
 -- Laws of the page that a guest holds: where its contents are at every moment of the hold, and what follows for a touch.
-use Rattle.std.specs.Prelude.{◌≡◌, refl, ℕ, List, Bool, true, false, Result, Ok, Err, is_ok}
+use Rattle.std.specs.Prelude.{◌≡◌, refl, ℕ, List, Bool, true, false, Some, Result, Ok, Err, is_ok}
 use Rattle.std.proofs.Common.{arith, sym, ◌∙◌, ap}
+use Rattle.cmm_types.specs.Bytes.{with_bytes}
 use Rattle.cmm_types.specs.declared.page.Content.{Content}
 use Rattle.cmm_types.specs.declared.page.Content.TheVariants.{Resident}
 use Rattle.essa_state.specs.declared.fields.Fields.{Fields}
 use Rattle.essa_state.specs.declared.orders.Old.{Old}
 use Rattle.essa_state.specs.declared.orders.Order.{Order}
 use Rattle.essa_state.specs.declared.orders.Order.TheVariants.{Get}
-use Rattle.essa_state.specs.StateWord.{is_resident, is_permitted}
+use Rattle.essa_state.specs.StateWord.{is_resident, is_discarded, is_permitted}
 use Rattle.essa_state.specs.Orders.{after_order}
 use Rattle.essa_state.specs.PageValue.{PageValue, Contents, Bytes, Blank, Lost, is_lost}
-use Rattle.essa_state.specs.PageBody.{Body, actual}
+use Rattle.essa_state.specs.PageBody.{Body, actual, frame_bytes}
 use Rattle.cmm_storage.specs.declared.storage.Trap.{Trap}
 use Rattle.cmm_storage.specs.declared.storage.Trap.TheVariants.{Discarded, Paging, NoFrame}
 use Rattle.cmm_storage.specs.StorageCall.{Take, Touch, Give, TakeChange, Fetch, Store}
-use Rattle.cmm_storage.specs.StorageView.{StorageView, Follows, IsPlaced, content_after, has_bytes, touched_contents}
+use Rattle.cmm_storage.specs.StorageView.{StorageView, Follows, IsPlaced, bytes_of, content_after, has_bytes, stored_value, touched_contents}
 use Rattle.cmm_storage.specs.Hold.{IsInHold}
 
 -- an order moves the contents of a page as it moves those of its word
@@ -114,3 +115,27 @@ touch_resident-succeeds v w page (Ok got) is resident follows = refl
 touch_resident-succeeds v w page (Err Discarded) is resident follows = absurd (placed-kept v.content (v.values page) is.placed resident follows.4)
 touch_resident-succeeds v w page (Err Paging) is resident follows = absurd (not-absent v.content resident follows.7)
 touch_resident-succeeds v w page (Err (NoFrame looks)) is resident follows = absurd (not-absent v.content resident follows.6)
+
+-- ---- a page that is resident
+
+pub resident-content : (w : Fields) → is_resident w.content ≡ true → w.content ≡ Resident
+resident-content w h = grind arith
+
+pub resident-contents : (w : Fields) (body : Body) → is_resident w.content ≡ true → (actual w body).contents ≡ Bytes (frame_bytes body)
+resident-contents w body resident = rw (resident-content w resident) refl
+
+pub resident-bytes : (w : Fields) (body : Body) → is_resident w.content ≡ true → bytes_of (actual w body).contents ≡ frame_bytes body
+resident-bytes w body resident = rw (resident-content w resident) refl
+
+-- bytes are stored to its frame
+pub stored-actual : (w : Fields) (body : Body) (off : ℕ) (bytes : List ℕ) → is_resident w.content ≡ true →
+    actual (record w { changed = true }) (record body { frame = Some (with_bytes (frame_bytes body) off bytes) }) ≡ stored_value true (actual w body) off bytes
+stored-actual w body off bytes resident = rw (resident-content w resident) refl
+
+pub lost-discarded : (w : Fields) (body : Body) → is_lost (actual w body).contents ≡ is_discarded w
+lost-discarded w body = grind arith
+
+-- what isn't resident wasn't touched
+pub not-touched : (touched resident : Bool) → (touched ≡ true → resident ≡ true) → resident ≡ false → touched ≡ false
+not-touched true resident before absent = sym (before refl) ∙ absent
+not-touched false resident before absent = refl

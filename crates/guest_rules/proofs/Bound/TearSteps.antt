@@ -24,7 +24,7 @@ use Rattle.guest_rules.proofs.Cases.TornPast.{tears_on, has_ended}
 use Rattle.guest_rules.proofs.Kept.SlotsKept.{slot-below}
 use Rattle.guest_rules.proofs.Causes.Processors.{processor-answered, at_phase}
 use Rattle.guest_rules.proofs.Causes.TornSlots.{IsPast, is_past}
-use Rattle.guest_rules.proofs.Causes.TakenOff.{taken-handled, taken-cleared, slots-released, slots-torn_off, tearing_has}
+use Rattle.guest_rules.proofs.Causes.TakenOff.{slots-handled, slots-cleared, slots-released, slots-torn_off, tearing_has}
 use Rattle.guest_rules.proofs.Causes.TearCauses.{unmapping}
 use Rattle.guest_rules.proofs.Bound.Ranks.{Rank, has_command, tears, OpRank, rank_of}
 use Rattle.guest_rules.proofs.Bound.TearRanks.{rank-unmaps, rank-tears}
@@ -90,9 +90,9 @@ tear_goes_on g v w d e cpu slot index h f (had_no_entry k none passes ew ee) =
     gone_on g cpu slot index g.parts h k refl (is_past g cpu slot index g.parts h Moved passes)
 tear_goes_on g v w d e cpu slot index h f (tear_missed why k eh et may misses ee) = absurd (cc et)
 tear_goes_on g v w d e cpu slot index h f (tear_gone tag pte found k entry has back may lost unused passes) =
-    gone_on g cpu slot index (handled g.parts pte.page) h k (taken-handled g slot index pte entry).slots (is_past g cpu slot index (handled g.parts pte.page) h Moved passes)
+    gone_on g cpu slot index (handled g.parts pte.page) h k (slots-handled g pte.page) (is_past g cpu slot index (handled g.parts pte.page) h Moved passes)
 tear_goes_on g v w d e cpu slot index h f (was_cleared_at tag pte found after k entry shows back may told passes) =
-    gone_on g cpu slot index after h k (taken-cleared g v w d cpu slot index pte found after f k entry told).slots (is_past g cpu slot index after h Moved passes)
+    gone_on g cpu slot index after h k (slots-cleared g w slot index pte found after told) (is_past g cpu slot index after h Moved passes)
 
 pub tear_own_goes_on : (g : GuestState) (v w : StorageView) (d e : DiskView) (cpu slot index : ℕ) (h : GuestState) → TearOwnCase g cpu slot index v d h Moved w e → HasGoneOn g cpu slot index h
 tear_own_goes_on g v w d e cpu slot index h (had_no_page_of_its k none passes ew ee) =

@@ -7,7 +7,7 @@ use Rattle.cmm_types.specs.declared.plan.CpuPlan.{CpuPlan}
 use Rattle.cmm_types.specs.declared.plan.GuestPlan.{GuestPlan}
 use Rattle.cmm_types.specs.InRange.{OpInRange, CpuInRange, GuestInRange}
 use Rattle.cmm_flat.specs.Legal.{command_of, process_of}
-use Rattle.guest_rules.specs.Fit.{commands_of}
+use Rattle.guest_rules.specs.Fit.{command_count}
 
 -- the plan of a processor that has a command
 record Commanded (plan : GuestPlan) (cpu k : ℕ) (op : Op) : Type 0 where
@@ -30,18 +30,18 @@ command-in_range plan cpu k op range e =
     let at = commanded plan cpu k op e in
     element OpInRange at.its.commands k op (element CpuInRange plan.cpus cpu at.its range.cpus.each at.there).commands at.command
 
-pub command-below : (plan : GuestPlan) (cpu k : ℕ) (op : Op) → command_of plan cpu k ≡ Some op → k < commands_of plan cpu
+pub command-below : (plan : GuestPlan) (cpu k : ℕ) (op : Op) → command_of plan cpu k ≡ Some op → k < command_count plan cpu
 command-below plan cpu k op e =
     let at = commanded plan cpu k op e in
-    rw (at.there, commands_of) (slice_get_within at.its.commands k op at.command)
+    rw (at.there, command_count) (slice_get_within at.its.commands k op at.command)
 
 -- a processor has at most so many commands
-pub commands_of-le : (plan : GuestPlan) (cpu : ℕ) → GuestInRange plan → commands_of plan cpu ≤ MAX_COMMANDS
-commands_of-le plan cpu range = of (slice_get plan.cpus cpu) refl
+pub command_count-le : (plan : GuestPlan) (cpu : ℕ) → GuestInRange plan → command_count plan cpu ≤ MAX_COMMANDS
+command_count-le plan cpu range = of (slice_get plan.cpus cpu) refl
   where
-    of : (o : Option CpuPlan) → slice_get plan.cpus cpu ≡ o → commands_of plan cpu ≤ MAX_COMMANDS
-    of None e = rw (e, commands_of) (omega arith)
-    of (Some its) e = rw (e, commands_of) (element CpuInRange plan.cpus cpu its range.cpus.each e).few
+    of : (o : Option CpuPlan) → slice_get plan.cpus cpu ≡ o → command_count plan cpu ≤ MAX_COMMANDS
+    of None e = rw (e, command_count) (omega arith)
+    of (Some its) e = rw (e, command_count) (element CpuInRange plan.cpus cpu its range.cpus.each e).few
 
 -- and its process is one of the guest's
 pub process_of-below : (plan : GuestPlan) (cpu : ℕ) → GuestInRange plan → process_of plan cpu < MAX_PROCESSES

@@ -24,7 +24,8 @@ use Rattle.guest_rules.specs.declared.processor.Phase.{Phase}
 use Rattle.guest_rules.specs.declared.processor.Phase.TheVariants.{Start, Fill, Room as AtRoom, Sync as AtSync, SyncWrite, Teardown}
 use Rattle.guest_rules.specs.GuestState.{GuestState, processor_at}
 use Rattle.guest_rules.specs.Turns.{mapping_pages, refusal_at, refusal_of_new}
-use Rattle.guest_rules.specs.Fit.{TeardownsFit, FitAt, sum_below}
+use Rattle.cmm_types.specs.Sums.{sum_below}
+use Rattle.guest_rules.specs.Fit.{TeardownsFit, FitAt}
 use Rattle.guest_rules.proofs.Cases.TurnCases.{Starts, Wants, Maps, CanBeSet, pin_op, ShowsPage}
 use Rattle.guest_rules.proofs.Cases.MapsFound.{found_slot, tag_at-place}
 use Rattle.guest_rules.proofs.Kept.PageFits.{tagged-below}

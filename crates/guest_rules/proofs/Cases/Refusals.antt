@@ -21,7 +21,7 @@ use Rattle.cmm_types.specs.Bytes.{bytes_at}
 use Rattle.cmm_flat.specs.Laws.RangeLaws.{bytes_at-bytes_at}
 use Rattle.cmm_flat.specs.Mapping.{shows_writable as flat_writable}
 use Rattle.cmm_flat.specs.State.{FlatState, mapping_at, file_at}
-use Rattle.cmm_flat.specs.Flat.{in_file, in_mapping, has_page, has_pin, is_pinned, of_live, first_refusal, refusal_of}
+use Rattle.cmm_flat.specs.Flat.{in_file, in_mapping, has_page, has_pin, pins_page, of_live, first_refusal, refusal_of}
 use Rattle.cmm_flat.specs.Laws.FlatLaws.{length-file_at}
 use Rattle.guest_maps.specs.declared.slot.Shown.{Shown}
 use Rattle.guest_maps.specs.declared.slot.Shown.TheVariants.{File, Anon}
@@ -169,15 +169,15 @@ place_tests false within is_pinned = first_refusal ((not within, OutOfRange) ∷
 
 abbrev pin_refusal : (pins : Bool) → (index : ℕ) → Option Mapping → Option FlatRefusal
 pin_refusal pins index None = Some NoMapping
-pin_refusal pins index (Some mapping) = place_tests pins (has_page index mapping) (is_pinned index mapping)
+pin_refusal pins index (Some mapping) = place_tests pins (has_page index mapping) (pins_page index mapping)
 
 pin_refused : (index : ℕ) (o : Option Mapping)
-    → first_refusal ((not (is_some o), NoMapping) ∷ (not (of_live (has_page index) o), OutOfRange) ∷ (of_live (is_pinned index) o, Pinned) ∷ []) ≡ pin_refusal true index o
+    → first_refusal ((not (is_some o), NoMapping) ∷ (not (of_live (has_page index) o), OutOfRange) ∷ (of_live (pins_page index) o, Pinned) ∷ []) ≡ pin_refusal true index o
 pin_refused index None = refl
 pin_refused index (Some mapping) = refl
 
 unpin_refused : (index : ℕ) (o : Option Mapping)
-    → first_refusal ((not (is_some o), NoMapping) ∷ (not (of_live (has_page index) o), OutOfRange) ∷ (not (of_live (is_pinned index) o), NotPinned) ∷ []) ≡ pin_refusal false index o
+    → first_refusal ((not (is_some o), NoMapping) ∷ (not (of_live (has_page index) o), OutOfRange) ∷ (not (of_live (pins_page index) o), NotPinned) ∷ []) ≡ pin_refusal false index o
 unpin_refused index None = refl
 unpin_refused index (Some mapping) = refl
 

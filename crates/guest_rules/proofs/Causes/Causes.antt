@@ -141,5 +141,5 @@ answer_causes g v w d e cpu h t f (was_filled op page tag has phase tagged eh et
 answer_causes g v w d e cpu h t f (was_sync file index k) = sync_causes g v w d e cpu file index h t f k
 answer_causes g v w d e cpu h t f (was_room op k) = room_causes g v w d e cpu op h t f k
 answer_causes g v w d e cpu h t f (was_unmapped number slot starts found eh et ew ee) = unmap_causes g v w d e cpu number slot h t f starts found eh et
-answer_causes g v w d e cpu h t f (was_torn slot index its k) = tear_causes g v w d e cpu slot index h t f k
+answer_causes g v w d e cpu h t f (was_torn slot index its k) = tear_causes g v w d e cpu slot index h t f its k
 answer_causes g v w d e cpu h t f (was_torn_own slot index its k) = tear_own_causes g v w d e cpu slot index h t f its k

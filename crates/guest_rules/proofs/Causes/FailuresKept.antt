@@ -13,7 +13,10 @@ use Rattle.cmm_types.specs.declared.turn.Turn.TheVariants.{Moved, Finished, Wait
 use Rattle.cmm_types.specs.declared.turn.Alone.{Alone}
 use Rattle.cmm_io.specs.Faults.{HasRisen}
 use Rattle.cmm_io.specs.DiskView.{DiskView}
-use Rattle.cmm_flat.specs.Legal.{Walk, LegalFrom, IsReply, after, process_of}
+use Rattle.cmm_io.specs.FailurePlan.{FailurePlan}
+use Rattle.cmm_io.specs.Counted.{IsCounted, distinct}
+use Rattle.cmm_io.proofs.Counted.{counted-most, distinct-none}
+use Rattle.cmm_flat.specs.Legal.{Walk, Legal, LegalFrom, IsReply, after, process_of, start_of}
 use Rattle.cmm_storage.specs.StorageView.{StorageView}
 use Rattle.cmm_storage.specs.Program.{done}
 use Rattle.cmm_storage.specs.Views.{Seen, seen-keeps, unbind}
@@ -24,6 +27,7 @@ use Rattle.guest_rules.specs.Fit.{Fit}
 use Rattle.guest_rules.specs.Cause.{AnswerCause, HasFinished, HasUnmapped, HasToWait, ReplyCause}
 use Rattle.guest_rules.specs.Failures.{FailuresFit, disk_failures, paging_failures, is_disk_failure, is_paging_failure, replies_of}
 use Rattle.guest_rules.specs.FlatReplies.{IsFlatReply, HasFlatRepliesFrom}
+use Rattle.guest_rules.specs.FailsAsPlanned.{FailsAsPlanned}
 use Rattle.guest_rules.proofs.Ready.ReadyCalls.{journal-most, all_commands-bound}
 use Rattle.guest_rules.proofs.TurnLaws.{Fit-turn, Causes-turn, plan-turn}
 
@@ -156,3 +160,19 @@ flat_replies plan walk (entry ∷ entries) (next, rest) no_disk no_paging =
       flat_reply plan walk (process_of plan entry.cpu) entry.op entry.reply next.reply (omega (arith, disk, no_disk)) (omega (arith, paging, no_paging)),
       flat_replies plan (after plan walk entry) entries rest (omega (arith, disk, no_disk)) (omega (arith, paging, no_paging)),
     )
+
+-- where no more commands failed than calls did, and no more calls than are planned to
+pub fails_as_planned : (plan : GuestPlan) (journal : List Entry) (calls pager : FailurePlan) → Legal plan journal → disk_failures journal ≤ calls.faults
+    → paging_failures journal ≤ pager.faults → IsCounted plan.disk_fail calls → IsCounted plan.pager_fail pager → FailsAsPlanned plan journal
+fails_as_planned plan journal calls pager legal disk paging disk_calls pager_calls = record {
+  by_disk = by_disk;
+  by_pager = by_pager;
+  flat = λ none_disk none_pager.
+      flat_replies plan (start_of plan) journal legal (omega (arith, by_disk, distinct-none plan.disk_fail none_disk)) (omega (arith, by_pager, distinct-none plan.pager_fail none_pager));
+}
+  where
+    by_disk : disk_failures journal ≤ distinct plan.disk_fail
+    by_disk = omega (arith, disk, counted-most plan.disk_fail calls disk_calls)
+
+    by_pager : paging_failures journal ≤ distinct plan.pager_fail
+    by_pager = omega (arith, paging, counted-most plan.pager_fail pager pager_calls)

@@ -8,6 +8,7 @@ use Rattle.cmm_types.specs.declared.turn.Turn.TheVariants.{Moved}
 use Rattle.cmm_flat.specs.Legal.{process_of}
 use Rattle.cmm_io.specs.DiskView.{DiskView}
 use Rattle.cmm_storage.specs.StorageView.{StorageView}
+use Rattle.guest_cache.specs.CacheView.{CacheView}
 use Rattle.guest_maps.specs.MapsView.{MapsView, slot_at, find_slot, place_at, entry_at, torn_slot, freed_slot}
 use Rattle.guest_maps.specs.Laws.TornLaws.{entries-freed_slot, slot_at-freed_slot_same}
 use Rattle.guest_rules.specs.declared.parts.Parts.{Parts}
@@ -15,9 +16,9 @@ use Rattle.guest_rules.specs.declared.processor.Phase.TheVariants.{Start, Teardo
 use Rattle.guest_rules.specs.GuestState.{GuestState, processor_at, with_parts, with_phase, answered, next_command}
 use Rattle.guest_rules.specs.Rows.{handled, freed, released}
 use Rattle.guest_rules.specs.Turns.{mapping_pages}
-use Rattle.guest_rules.specs.Fit.{Fit}
+use Rattle.guest_rules.specs.Fit.{Fit, IsUntagged}
 use Rattle.guest_rules.specs.Cause.{AnswerCause, HasUnmapped, HasTorn, HasTornDown, TearLeads}
-use Rattle.guest_rules.proofs.Cases.TurnCases.{TearCase, had_no_entry, tear_missed, tear_gone, was_cleared_at, TearOwnCase, had_no_page_of_its, tear_waited, tear_own_missed, was_torn_off, Has, Starts, Tears, TearsOwn}
+use Rattle.guest_rules.proofs.Cases.TurnCases.{TearCase, had_no_entry, tear_missed, tear_gone, was_cleared_at, TearOwnCase, had_no_page_of_its, tear_waited, tear_own_missed, was_torn_off, Has, Starts, Tears, TearsFile, TearsOwn}
 use Rattle.guest_rules.proofs.Cases.TornPast.{tears_on, has_ended}
 use Rattle.guest_rules.proofs.Kept.LocksKept.{locks_none}
 use Rattle.guest_rules.proofs.Kept.SlotsKept.{slot-below}
@@ -26,7 +27,7 @@ use Rattle.guest_rules.proofs.Causes.Processors.{processor-answered, processor-n
 use Rattle.guest_rules.proofs.Causes.CauseForms.{moved_phase, phase_after, others_move}
 use Rattle.guest_rules.proofs.Causes.RoomMoves.{no_room}
 use Rattle.guest_rules.proofs.Causes.TornSlots.{IsPast, is_past, torn_not_found}
-use Rattle.guest_rules.proofs.Causes.TakenOff.{IsTakenOff, taken-handled, taken-cleared, taken-released, taken-torn_off, tearing_has}
+use Rattle.guest_rules.proofs.Causes.TakenOff.{IsTakenOff, taken-none, taken-handled, taken-cleared, taken-released, taken-torn_off, tearing_has}
 use Rattle.guest_rules.proofs.Causes.SyncCauses.{last_index}
 
 not_sync : (number file : ℕ) → Unmap number ≡ Sync file → ⊥
@@ -79,8 +80,13 @@ unmap_causes g v w d e cpu number slot h t f starts found eh et =
 tearing_within : (g : GuestState) (cpu slot index : ℕ) → Tears g cpu slot index → index < mapping_pages (slot_at g.parts.maps slot)
 tearing_within g cpu slot index k = rw k.tearing.at k.tearing.within
 
-has_torn : (g h : GuestState) (cpu slot index : ℕ) (maps : MapsView) → Tears g cpu slot index → entry_at maps slot index ≡ None → h.parts.maps ≡ maps → HasTorn g cpu slot index h
-has_torn g h cpu slot index maps k none same = record { phase = k.phase; cleared = ap (λ m. entry_at m slot index) same ∙ none }
+has_torn : (g h : GuestState) (cpu slot index : ℕ) (maps : MapsView) (after : Parts) → Tears g cpu slot index → IsTakenOff g slot index after → entry_at maps slot index ≡ None
+    → h.parts.maps ≡ maps → h.parts.cache ≡ after.cache → HasTorn g cpu slot index h
+has_torn g h cpu slot index maps after k taken none same cache = record {
+  phase = k.phase;
+  cleared = ap (λ m. entry_at m slot index) same ∙ none;
+  untagged = subst (λ (c : CacheView). IsUntagged c slot index) (sym cache) taken.untagged;
+}
 
 -- the teardown goes on
 tears_next : (g h : GuestState) (v w : StorageView) (d e : DiskView) (cpu slot index : ℕ) (after : Parts) → Tears g cpu slot index → IsTakenOff g slot index after
@@ -93,7 +99,7 @@ tears_next g h v w d e cpu slot index after k taken more eh = (
   record {
     leads = λ number command.
         subst (λ p. TearLeads g cpu p h) (sym k.phase)
-        (phase, more, has_torn g h cpu slot index after.maps k taken.cleared (ap (λ (q : GuestState). q.parts.maps) eh));
+        (phase, more, has_torn g h cpu slot index after.maps after k taken taken.cleared (ap (λ (q : GuestState). q.parts.maps) eh) (ap (λ (q : GuestState). q.parts.cache) eh));
     only = λ other i at. (k.tearing.number, k.tearing.command);
   },
 )
@@ -117,8 +123,8 @@ is_torn_down g h cpu slot index after k taken last eh =
     record {
       slot = slot;
       index = index;
-      torn = has_torn g h cpu slot index (freed_slot after.maps slot) k
-          (ap (λ entries. get_or entries (place_at slot index) None) (entries-freed_slot after.maps slot) ∙ taken.cleared) maps;
+      torn = has_torn g h cpu slot index (freed_slot after.maps slot) after k taken
+          (ap (λ entries. get_or entries (place_at slot index) None) (entries-freed_slot after.maps slot) ∙ taken.cleared) maps (ap (λ (q : GuestState). q.parts.cache) eh);
       last = last_index index (mapping_pages (slot_at g.parts.maps slot)) (tearing_within g cpu slot index k) last;
       free = ap (λ m. slot_at m slot) maps ∙ slot_at-freed_slot_same after.maps slot below;
       journal = ap (λ (q : GuestState). q.journal) eh;
@@ -130,17 +136,17 @@ torn_past_causes : (g : GuestState) (v w : StorageView) (d e : DiskView) (cpu sl
 torn_past_causes g v w d e cpu slot index after h t k taken (tears_on more eh et) = rw et (tears_next g h v w d e cpu slot index after k taken more eh)
 torn_past_causes g v w d e cpu slot index after h t k taken (has_ended last eh et) = rw et (inr (is_torn_down g h cpu slot index after k taken last eh))
 
-pub tear_causes : (g : GuestState) (v w : StorageView) (d e : DiskView) (cpu slot index : ℕ) (h : GuestState) (t : Turn) → Fit g v d → TearCase g cpu slot index v d h t w e
-    → AnswerCause g v d cpu t h w e
-tear_causes g v w d e cpu slot index h t f (had_no_entry k none passes ew ee) =
-    torn_past_causes g v w d e cpu slot index g.parts h t k (record { cleared = none; slots = refl }) (is_past g cpu slot index g.parts h t passes)
-tear_causes g v w d e cpu slot index h t f (tear_missed why k eh et may misses ee) =
+pub tear_causes : (g : GuestState) (v w : StorageView) (d e : DiskView) (cpu slot index : ℕ) (h : GuestState) (t : Turn) → Fit g v d → TearsFile g slot
+    → TearCase g cpu slot index v d h t w e → AnswerCause g v d cpu t h w e
+tear_causes g v w d e cpu slot index h t f its (had_no_entry k none passes ew ee) =
+    torn_past_causes g v w d e cpu slot index g.parts h t k (taken-none g v d cpu slot index f its k none) (is_past g cpu slot index g.parts h t passes)
+tear_causes g v w d e cpu slot index h t f its (tear_missed why k eh et may misses ee) =
     rw et (record { tables = inl eh; command = (Unmap k.tearing.number, k.tearing.command) }, ee, misses.risen)
-tear_causes g v w d e cpu slot index h t f (tear_gone tag pte found k entry has back may lost unused passes) =
+tear_causes g v w d e cpu slot index h t f its (tear_gone tag pte found k entry has back may lost unused passes) =
     let after = handled g.parts pte.page in
-    torn_past_causes g v w d e cpu slot index after h t k (taken-handled g slot index pte entry) (is_past g cpu slot index after h t passes)
-tear_causes g v w d e cpu slot index h t f (was_cleared_at tag pte found after k entry shows back may told passes) =
-    torn_past_causes g v w d e cpu slot index after h t k (taken-cleared g v w d cpu slot index pte found after f k entry told) (is_past g cpu slot index after h t passes)
+    torn_past_causes g v w d e cpu slot index after h t k (taken-handled g v w d e cpu slot index tag pte found f its k entry has back may lost unused) (is_past g cpu slot index after h t passes)
+tear_causes g v w d e cpu slot index h t f its (was_cleared_at tag pte found after k entry shows back may told passes) =
+    torn_past_causes g v w d e cpu slot index after h t k (taken-cleared g v w d e cpu slot index tag pte found after f its k entry shows back may told) (is_past g cpu slot index after h t passes)
 
 -- ---- a page was taken off a mapping of pages of its own
 

@@ -15,7 +15,7 @@ use Rattle.guest_rules.specs.declared.processor.Phase.{Phase}
 use Rattle.guest_rules.specs.declared.processor.Phase.TheVariants.{Teardown}
 use Rattle.guest_rules.specs.declared.processor.Processor.{Processor}
 use Rattle.guest_rules.specs.GuestState.{GuestState, processor_at}
-use Rattle.guest_rules.specs.Fit.{PagesFit, SlotsFit, EntriesFit, PinsFit, FlatFit, LocksFit, TeardownsFit, JournalFit, FaultsFit, FitAt, IsUsedTag, one_if_lost, entries_of, own_pages, commands_of}
+use Rattle.guest_rules.specs.Fit.{PagesFit, SlotsFit, EntriesFit, PinsFit, FlatFit, LocksFit, TeardownsFit, JournalFit, FaultsFit, FitAt, IsUsedTag, one_if_lost, entries_of, own_pages, command_count}
 use Rattle.guest_rules.proofs.Cases.TurnCases.{GivenBack}
 use Rattle.guest_rules.proofs.Rows.ValueLaws.{may-faults}
 use Rattle.guest_rules.proofs.Kept.Faults.{sum_below-more}
@@ -47,8 +47,8 @@ JournalFit-kept g h f plan journal size same sums ended = record {
       let was : (progress_of (walk_of h.plan (start_of h.plan) h.journal) q).next ≡ entries_of (processor_at g q) = rw (plan, journal) (f.places q (rw size at below)) in
       was ∙ sym (same q);
   within = λ q below.
-      let was : entries_of (processor_at g q) ≤ commands_of h.plan q = rw plan (f.within q (rw size at below)) in
-      subst (λ n. n ≤ commands_of h.plan q) (sym (same q)) was;
+      let was : entries_of (processor_at g q) ≤ command_count h.plan q = rw plan (f.within q (rw size at below)) in
+      subst (λ n. n ≤ command_count h.plan q) (sym (same q)) was;
   counted = ap length journal ∙ f.counted ∙ sym sums;
   ended = λ q slot index e.
       let was = ended q slot index e in

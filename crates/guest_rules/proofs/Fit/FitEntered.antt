@@ -16,7 +16,7 @@ use Rattle.guest_maps.specs.MapsView.{slot_at}
 use Rattle.guest_rules.specs.declared.processor.Phase.TheVariants.{Start, Teardown}
 use Rattle.guest_rules.specs.declared.processor.Processor.{Processor}
 use Rattle.guest_rules.specs.GuestState.{GuestState, first_processor, processor_at, entered}
-use Rattle.guest_rules.specs.Fit.{JournalFit, FitAt, Fit, commands_of, answered_early, entries_of, own_pages}
+use Rattle.guest_rules.specs.Fit.{JournalFit, FitAt, Fit, command_count, answered_early, entries_of, own_pages}
 use Rattle.guest_rules.proofs.Kept.LocksKept.{locks_none, LocksFit-passed}
 use Rattle.guest_rules.proofs.Kept.TeardownsKept.{OneProcessor, one-set, KeepsTearing, keeps_tearing-one, keeps_torn-same, untagged-same, TeardownsFit-kept}
 use Rattle.guest_rules.proofs.Fit.FitOthers.{FlatFit-others, FitAt-others}
@@ -89,11 +89,11 @@ JournalFit-entered g h cpu op reply processor f size k plan journal processors e
     ends q slot (inl (n, at, before, same)) = ap (λ (p : Progress). p.ended) (progress_of-after_other g.plan (walk_at g) entry q n) ∙ f.ended q slot at before ∙ sym same
     ends q slot (inr (z, same)) = ap (λ x. (progress_of (after g.plan (walk_at g) entry) x).ended) z ∙ ended-after g.plan (walk_at g) entry cpus ∙ same
 
-    room : (q : ℕ) → q < length g.processors → entries_of (processor_at h q) ≤ commands_of g.plan q
+    room : (q : ℕ) → q < length g.processors → entries_of (processor_at h q) ≤ command_count g.plan q
     room q lt = elim (cases_eq q cpu) [
       | inl z ↦
-          let most : (processor_at g cpu).place + 1 ≤ commands_of g.plan cpu = omega (arith, command-below g.plan cpu (processor_at g cpu).place op k.command) in
-          rw (processors, z, get_or-set_same g.processors cpu processor first_processor k.below) (subst (λ n. n ≤ commands_of g.plan cpu) (sym k.entries) most)
+          let most : (processor_at g cpu).place + 1 ≤ command_count g.plan cpu = omega (arith, command-below g.plan cpu (processor_at g cpu).place op k.command) in
+          rw (processors, z, get_or-set_same g.processors cpu processor first_processor k.below) (subst (λ n. n ≤ command_count g.plan cpu) (sym k.entries) most)
       | inr n ↦ rw (processors, get_or-set_other g.processors cpu q processor first_processor n) (f.within q lt)
     ]
 

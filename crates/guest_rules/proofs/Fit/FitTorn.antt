@@ -22,7 +22,7 @@ use Rattle.guest_rules.specs.declared.processor.Phase.TheVariants.{Teardown}
 use Rattle.guest_rules.specs.GuestState.{GuestState, processor_at, with_parts}
 use Rattle.guest_rules.specs.Rows.{freed, handled, unmapped, released}
 use Rattle.guest_rules.specs.Turns.{mapping_pages}
-use Rattle.guest_rules.specs.Fit.{FitAt, Fit, IsTearing, IsOwnPage, IsUsedTag}
+use Rattle.guest_rules.specs.Fit.{FitAt, Fit, IsTearing, IsOwnPage, IsUsedTag, IsUntagged}
 use Rattle.guest_rules.proofs.Cases.TurnCases.{HasPage, TearsPast, TearsFile, TearsOwn, TearCase, had_no_entry, tear_missed, tear_gone, was_cleared_at, TearOwnCase, had_no_page_of_its, tear_waited, tear_own_missed, was_torn_off}
 use Rattle.guest_rules.proofs.Cases.MapsFound.{tag_at-place}
 use Rattle.guest_rules.proofs.Cases.TornPast.{HasTornPast, has_torn_past}
@@ -31,7 +31,6 @@ use Rattle.guest_rules.proofs.Kept.EntryLaws.{entry_at-set}
 use Rattle.guest_rules.proofs.Kept.EntriesKept.{has_entry-within}
 use Rattle.guest_rules.proofs.Kept.SwapLaws.{swap_slot-is}
 use Rattle.guest_rules.proofs.Kept.FlatTags.{own-is_tag}
-use Rattle.guest_rules.proofs.Kept.TeardownsKept.{IsUntagged}
 use Rattle.guest_rules.proofs.Fit.FitMay.{FitAt-may}
 use Rattle.guest_rules.proofs.Fit.StepFreed.{Fit-gone, Fit-torn_off}
 use Rattle.guest_rules.proofs.Fit.StepSwapped.{FitAt-released, released-untagged}
@@ -51,13 +50,13 @@ handled-entry g slot index pte at =
     ∙ ap (unless_shows pte.page) at
     ∙ unless_shows-own pte.page (Some pte) (eq-eqb pte.page pte.page refl)
 
-handled-slot : (g : GuestState) (slot page : ℕ) → slot_at (handled g.parts page).maps slot ≡ slot_at g.parts.maps slot
+pub handled-slot : (g : GuestState) (slot page : ℕ) → slot_at (handled g.parts page).maps slot ≡ slot_at g.parts.maps slot
 handled-slot g slot page =
     ap (λ (m : MapsView). slot_at m slot) (handled-maps g.parts page ∙ freed-maps g.parts page)
     ∙ ap (λ xs. slot_at (record g.parts.maps { slots = xs }) slot) (slots-without_entries_of g.parts.maps page)
 
 -- a page of a mapping of a file has no tag of its own
-file_untagged : (state : FlatState) (g : GuestState) (v : StorageView) (d : DiskView) (slot index : ℕ) (k : TearsFile g slot) → FitAt state g v d → index < k.mapping.count
+pub file_untagged : (state : FlatState) (g : GuestState) (v : StorageView) (d : DiskView) (slot index : ℕ) (k : TearsFile g slot) → FitAt state g v d → index < k.mapping.count
     → IsUntagged g.parts.cache slot index
 file_untagged state g v d slot index k f below = (no_page (page_of g.parts.cache (Anon slot index)) refl, no_slot (swap_slot g.parts.cache (Anon slot index)) refl)
   where
@@ -82,7 +81,7 @@ tag_exact : {a b : Tag} → Some a ≡ Some b → a ≡ b
 tag_exact e = cc
 
 -- also with other tables, in which the mapping is the same
-abbrev still_file : (g : GuestState) (slot : ℕ) (after : Parts) → slot_at after.maps slot ≡ slot_at g.parts.maps slot → TearsFile g slot → TearsFile (with_parts g after) slot
+abbrev pub still_file : (g : GuestState) (slot : ℕ) (after : Parts) → slot_at after.maps slot ≡ slot_at g.parts.maps slot → TearsFile g slot → TearsFile (with_parts g after) slot
 still_file g slot after same k = record { mapping = k.mapping; at = same ∙ k.at; file = k.file; first = k.first; writable = k.writable; shown = k.shown }
 
 -- the page that the unmap is at is one of the mapping

@@ -22,7 +22,8 @@ use Rattle.guest_maps.specs.MapsView.{MapsView, slot_at, pinned_at, tag_at, slot
 use Rattle.guest_rules.specs.declared.parts.Parts.{Parts}
 use Rattle.guest_rules.specs.GuestState.{GuestState}
 use Rattle.guest_rules.specs.MakeRoom.{is_pinned, pinned_count}
-use Rattle.guest_rules.specs.Fit.{PagesFit, SlotsFit, PinsFit, TeardownsFit, flat_slot, pins_of, sum_below, is_tag_of, pin_on, pins_within}
+use Rattle.cmm_types.specs.Sums.{sum_below}
+use Rattle.guest_rules.specs.Fit.{PagesFit, SlotsFit, PinsFit, TeardownsFit, flat_slot, pins_of, is_tag_of, pin_on, pins_within}
 use Rattle.guest_rules.proofs.Kept.PinLaws.{length-pins_of, pins_of-at, sum_below-same, sum_below-none, is_tag_of-is}
 use Rattle.guest_rules.proofs.Kept.Shapes.{shape_some, shape_pins}
 use Rattle.guest_rules.proofs.Kept.FlatTags.{shape_at}

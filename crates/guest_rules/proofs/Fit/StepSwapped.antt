@@ -15,7 +15,7 @@ use Rattle.guest_maps.specs.MapsView.{slot_at}
 use Rattle.guest_rules.specs.GuestState.{GuestState, with_parts}
 use Rattle.guest_rules.specs.Rows.{released}
 use Rattle.guest_rules.specs.MakeRoom.{with_swap_slot}
-use Rattle.guest_rules.specs.Fit.{FitAt, IsSyncing, IsFlatTag, IsUsedTag, backed, backing, current, current_at, current_bytes}
+use Rattle.guest_rules.specs.Fit.{FitAt, IsSyncing, IsFlatTag, IsUsedTag, backed, backing, current, current_at, current_bytes, IsUntagged}
 use Rattle.guest_rules.proofs.Rows.ValueLaws.{hint-dirty}
 use Rattle.guest_rules.proofs.Rows.Values.{stable_there}
 use Rattle.guest_rules.proofs.Kept.Changes.{IsTag-same, cases_tag}
@@ -24,7 +24,7 @@ use Rattle.guest_rules.proofs.Kept.SwapLaws.{SwapChange, swap_tag, swap-here, sw
 use Rattle.guest_rules.proofs.Kept.SlotsKept.{SlotsFit-kept}
 use Rattle.guest_rules.proofs.Kept.TagsKept.{TagsStand}
 use Rattle.guest_rules.proofs.Kept.FlatTags.{IsFlatTag-same, never_live}
-use Rattle.guest_rules.proofs.Kept.TeardownsKept.{IsUntagged, KeepsUntagged, keeps_tearing-all, keeps_torn-same, TeardownsFit-kept}
+use Rattle.guest_rules.proofs.Kept.TeardownsKept.{KeepsUntagged, keeps_tearing-all, keeps_torn-same, TeardownsFit-kept}
 use Rattle.guest_rules.proofs.Kept.Untagged.{untagged-unassigned}
 use Rattle.guest_rules.proofs.Fit.FitMay.{infos-pages}
 

@@ -23,7 +23,7 @@ use Rattle.guest_rules.specs.declared.processor.Processor.{Processor}
 use Rattle.guest_rules.specs.GuestState.{GuestState, first_processor, processor_at, with_parts, with_phase, next_command}
 use Rattle.guest_rules.specs.Rows.{unmapped}
 use Rattle.guest_rules.specs.Turns.{mapping_pages}
-use Rattle.guest_rules.specs.Fit.{SlotsFit, EntriesFit, IsTearing, JournalFit, FitAt, Fit, IsOwnPage, IsUsedTag, answered_early, entries_of, own_pages}
+use Rattle.guest_rules.specs.Fit.{SlotsFit, EntriesFit, IsTearing, JournalFit, FitAt, Fit, IsOwnPage, IsUsedTag, answered_early, entries_of, own_pages, IsUntagged}
 use Rattle.guest_rules.proofs.Cases.TurnCases.{GivenBack, ShowsPage, IsRehinted}
 use Rattle.guest_rules.proofs.Cases.TornPast.{HasTornPast, tears_on, has_ended}
 use Rattle.guest_rules.proofs.Kept.Changes.{InfoChange}
@@ -33,7 +33,7 @@ use Rattle.guest_rules.proofs.Kept.SlotsKept.{slot-below, SlotsFit-kept, SlotsFi
 use Rattle.guest_rules.proofs.Kept.EntriesKept.{HasEntry, has_entry-within, EntriesFit-unmapped, EntriesFit-freed_slot}
 use Rattle.guest_rules.proofs.Kept.PinsKept.{SamePlaces, PinsFit-info, PinsFit-freed_slot}
 use Rattle.guest_rules.proofs.Kept.LocksKept.{locks_none, LocksFit-passed}
-use Rattle.guest_rules.proofs.Kept.TeardownsKept.{KeepsTorn, IsUntagged, keeps_torn-cleared, OneProcessor, one-set, TeardownsFit-next, TeardownsFit-ended}
+use Rattle.guest_rules.proofs.Kept.TeardownsKept.{KeepsTorn, keeps_torn-cleared, OneProcessor, one-set, TeardownsFit-next, TeardownsFit-ended}
 use Rattle.guest_rules.proofs.Fit.FitMay.{infos-pages}
 use Rattle.guest_rules.proofs.Kept.TagsKept.{tags_stand, TagsStand-maps}
 use Rattle.guest_rules.proofs.Fit.FitOthers.{FlatFit-others, FitAt-others}

@@ -29,7 +29,8 @@ use Rattle.guest_rules.specs.declared.parts.Parts.{Parts}
 use Rattle.guest_rules.specs.GuestState.{GuestState, processor_at}
 use Rattle.guest_rules.specs.MakeRoom.{is_pinned, pinned_count}
 use Rattle.guest_rules.specs.Stuck.{IsStuck, IsUnslotted}
-use Rattle.guest_rules.specs.Fit.{SlotsFit, Fit, IsOwnPage, IsUsedTag, own_pages, sum_below}
+use Rattle.cmm_types.specs.Sums.{sum_below}
+use Rattle.guest_rules.specs.Fit.{SlotsFit, Fit, IsOwnPage, IsUsedTag, own_pages}
 use Rattle.guest_rules.proofs.Cases.Reached.{tears_slot, tears_slot-is, one_slot}
 use Rattle.guest_rules.proofs.Kept.PinLaws.{sum_below-at, sum_below-same}
 use Rattle.guest_rules.proofs.Kept.SlotsKept.{slot-below}

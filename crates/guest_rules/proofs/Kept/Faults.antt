@@ -1,7 +1,7 @@
 -- Sums over pages, where a number changes at one page.
 use Rattle.std.proofs.Common.{◌≢◌, ◌<◌, ◌≤◌, ◌+◌, ℕ, zero, suc, arith, inl, inr, subst, sym}
 use Rattle.std.proofs.lemmas.Bool.{cases_eq}
-use Rattle.guest_rules.specs.Fit.{sum_below}
+use Rattle.cmm_types.specs.Sums.{sum_below}
 
 -- at each page no more on the left than on the right
 pub sum_below-le : (a b c e : ℕ → ℕ) (count : ℕ) → ((page : ℕ) → page < count → a page + b page ≤ c page + e page)

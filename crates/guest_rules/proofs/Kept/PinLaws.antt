@@ -10,7 +10,8 @@ use Rattle.cmm_types.specs.declared.page.Tag.{Tag}
 use Rattle.cmm_types.specs.declared.page.Tag.TheVariants.{File, Anon}
 use Rattle.guest_maps.specs.MapsView.{MapsView, place_at, pinned_at, tag_at, one_if, with_pinned}
 use Rattle.guest_maps.specs.Laws.MapsLaws.{entry_place_exact, pinned_at-with_pinned_other}
-use Rattle.guest_rules.specs.Fit.{pins_of, sum_below, same_tag, is_tag_of, pin_on, pins_within}
+use Rattle.cmm_types.specs.Sums.{sum_below}
+use Rattle.guest_rules.specs.Fit.{pins_of, same_tag, is_tag_of, pin_on, pins_within}
 
 -- ---- the pins of a mapping as a list
 

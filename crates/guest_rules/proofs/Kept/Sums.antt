@@ -6,7 +6,7 @@ use Rattle.std.proofs.lemmas.Bool.Decides.{nat_tests}
 use Rattle.std.specs.List.{sum_by}
 use Rattle.std.proofs.lemmas.List.Sums.{sum_by-cons}
 use Rattle.guest_maps.specs.MapsView.{one_if}
-use Rattle.guest_rules.specs.Fit.{sum_below}
+use Rattle.cmm_types.specs.Sums.{sum_below}
 use Rattle.guest_rules.proofs.Kept.PinLaws.{sum_below-none}
 
 pub sum_below-mono : (f g : ℕ → ℕ) (count : ℕ) → ((i : ℕ) → i < count → f i ≤ g i) → sum_below f count ≤ sum_below g count

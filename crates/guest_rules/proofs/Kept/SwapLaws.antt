@@ -5,17 +5,13 @@ use Rattle.std.proofs.lemmas.Bool.{and_parts, eqb-true, cases_eq, false_from_ne_
 use Rattle.std.proofs.lemmas.List.Quantifiers.{position-Some}
 use Rattle.cmm_types.specs.declared.page.Tag.{Tag}
 use Rattle.cmm_types.specs.declared.page.Tag.TheVariants.{File, Anon}
-use Rattle.guest_cache.specs.CacheView.{CacheView, page_of, holds_page, swap_slot, swap_block, backing_of}
+use Rattle.guest_cache.specs.CacheView.{CacheView, page_of, holds_page, swap_slot, swap_block, backing_of, HasOneSwapSlot}
 use Rattle.guest_cache.specs.Laws.CacheLaws.{holds-itself}
 use Rattle.guest_maps.specs.FirstPlace.{position_kept, position_only, position_none, none_passes}
 
 -- the tag that a swap slot is assigned to
 abbrev pub swap_tag : CacheView → ℕ → Option Tag
 swap_tag cache number = slice_index_or cache.swap number None
-
--- no tag has two swap slots
-abbrev pub AreDistinctSlots : CacheView → Type 0
-AreDistinctSlots cache = (number other : ℕ) (tag : Tag) → swap_tag cache number ≡ Some tag → swap_tag cache other ≡ Some tag → number ≡ other
 
 pub holds-is : (slot index : ℕ) (o : Option Tag) → holds_page slot index o ≡ true → o ≡ Some (Anon slot index)
 holds-is slot index None e = let bad : false ≡ true = e in absurd cc
@@ -36,7 +32,7 @@ swap_slot-is cache slot index number e =
     let k = position-Some (holds_page slot index) cache.swap number None e in
     (k.0, holds-is slot index (swap_tag cache number) k.1)
 
-pub swap_slot-some : (cache : CacheView) (slot index number : ℕ) → AreDistinctSlots cache → number < length cache.swap → swap_tag cache number ≡ Some (Anon slot index)
+pub swap_slot-some : (cache : CacheView) (slot index number : ℕ) → HasOneSwapSlot cache → number < length cache.swap → swap_tag cache number ≡ Some (Anon slot index)
     → swap_slot cache (Anon slot index) ≡ Some number
 swap_slot-some cache slot index number distinct below e =
     position_only (holds_page slot index) cache.swap number None below (ap (holds_page slot index) e ∙ holds-itself slot index)
@@ -82,8 +78,8 @@ backing_of-other old new (File file index) files same = λ i. backing_of (record
 backing_of-other old new (Anon slot index) files same = λ i. swap_block (files i) (same i)
 
 -- no tag has two swap slots, where the one that it is has none yet
-pub distinct-assigned : (old new : CacheView) (number : ℕ) (tag : Tag) → SwapChange old new number (Some tag) → AreDistinctSlots old → ((other : ℕ) → swap_tag old other ≢ Some tag)
-    → AreDistinctSlots new
+pub distinct-assigned : (old new : CacheView) (number : ℕ) (tag : Tag) → SwapChange old new number (Some tag) → HasOneSwapSlot old → ((other : ℕ) → swap_tag old other ≢ Some tag)
+    → HasOneSwapSlot new
 distinct-assigned old new number tag k distinct none a b t e e' = elim (cases_eq a number) [
   | inl z ↦ elim (cases_eq b number) [
     | inl y ↦ z ∙ sym y
@@ -101,7 +97,7 @@ distinct-assigned old new number tag k distinct none a b t e e' = elim (cases_eq
     mine : (a : ℕ) (t : Tag) → a ≡ number → swap_tag new a ≡ Some t → Some tag ≡ Some t
     mine a t z e = sym (swap-here old new number (Some tag) k) ∙ ap (swap_tag new) (sym z) ∙ e
 
-pub distinct-released : (old new : CacheView) (number : ℕ) → SwapChange old new number None → AreDistinctSlots old → AreDistinctSlots new
+pub distinct-released : (old new : CacheView) (number : ℕ) → SwapChange old new number None → HasOneSwapSlot old → HasOneSwapSlot new
 distinct-released old new number k distinct a b t e e' = distinct a b t (was a t e) (was b t e')
   where
     was : (a : ℕ) (t : Tag) → swap_tag new a ≡ Some t → swap_tag old a ≡ Some t
@@ -111,12 +107,12 @@ distinct-released old new number k distinct a b t e e' = distinct a b t (was a t
     ]
 
 -- the tag that a free swap slot is assigned to has it from then on
-pub swap_slot-assigned : (old new : CacheView) (slot index number : ℕ) → SwapChange old new number (Some (Anon slot index)) → AreDistinctSlots new → swap_slot new (Anon slot index) ≡ Some number
+pub swap_slot-assigned : (old new : CacheView) (slot index number : ℕ) → SwapChange old new number (Some (Anon slot index)) → HasOneSwapSlot new → swap_slot new (Anon slot index) ≡ Some number
 swap_slot-assigned old new slot index number k distinct =
     swap_slot-some new slot index number distinct (rw (k.swap, length-set old.swap number (Some (Anon slot index))) k.below) (swap-here old new number (Some (Anon slot index)) k)
 
 -- the tag whose swap slot isn't assigned any more has none
-pub swap_slot-released : (old new : CacheView) (slot index number : ℕ) → SwapChange old new number None → AreDistinctSlots old → swap_tag old number ≡ Some (Anon slot index)
+pub swap_slot-released : (old new : CacheView) (slot index number : ℕ) → SwapChange old new number None → HasOneSwapSlot old → swap_tag old number ≡ Some (Anon slot index)
     → swap_slot new (Anon slot index) ≡ None
 swap_slot-released old new slot index number k distinct was = swap_slot-none new slot index none
   where

@@ -7,20 +7,20 @@ use Rattle.cmm_io.specs.DiskView.{DiskView}
 use Rattle.cmm_storage.specs.StorageView.{StorageView}
 use Rattle.guest_pages.specs.declared.info.PageInfo.{PageInfo}
 use Rattle.guest_pages.specs.PagesView.{info_at}
-use Rattle.guest_cache.specs.CacheView.{IsAnonymous}
+use Rattle.guest_cache.specs.CacheView.{IsAnonymous, HasOneSwapSlot}
 use Rattle.guest_maps.specs.declared.slot.Slot.{Slot}
 use Rattle.guest_maps.specs.MapsView.{MapsView}
 use Rattle.guest_rules.specs.declared.parts.Parts.{Parts}
 use Rattle.guest_rules.specs.Fit.{IsOwnPage, IsUsedTag, TagsFit}
 use Rattle.guest_rules.proofs.Kept.Changes.{InfoChange}
-use Rattle.guest_rules.proofs.Kept.SwapLaws.{swap_tag, AreDistinctSlots}
+use Rattle.guest_rules.proofs.Kept.SwapLaws.{swap_tag}
 use Rattle.guest_rules.proofs.Kept.PageFits.{EachPageFits}
 
 -- what fit says of tags, but for what is on one page
 pub record TagsStand (parts : Parts) : Type 0 where
   pub pages : (page : ℕ) (tag : Tag) → (info_at parts.pages page).tag ≡ Some tag → IsUsedTag parts.maps tag
   pub swapped : (number : ℕ) (tag : Tag) → swap_tag parts.cache number ≡ Some tag → IsAnonymous tag × IsUsedTag parts.maps tag
-  pub distinct : AreDistinctSlots parts.cache
+  pub distinct : HasOneSwapSlot parts.cache
 
 pub tags_stand : (parts : Parts) (v : StorageView) → TagsFit parts v → TagsStand parts
 tags_stand parts v f = record { pages = f.pages; swapped = f.swapped; distinct = f.distinct }

@@ -19,7 +19,7 @@ use Rattle.guest_rules.specs.declared.processor.Phase.{Phase}
 use Rattle.guest_rules.specs.declared.processor.Phase.TheVariants.{Start, Fill, Room as AtRoom, Sync as AtSync, SyncWrite, Teardown}
 use Rattle.guest_rules.specs.declared.processor.Processor.{Processor}
 use Rattle.guest_rules.specs.GuestState.{GuestState, first_processor, processor_at, with_parts, with_phase, answered, next_command}
-use Rattle.guest_rules.specs.Fit.{SlotsFit, HasLocked, IsTearing, TeardownsFit}
+use Rattle.guest_rules.specs.Fit.{SlotsFit, HasLocked, IsTearing, TeardownsFit, IsUntagged}
 use Rattle.guest_rules.proofs.Kept.Changes.{PhaseChange, teardown_of, same-teardown}
 use Rattle.guest_rules.proofs.Kept.SlotsKept.{slot-below}
 use Rattle.guest_rules.proofs.Kept.PinLaws.{PinChange}
@@ -204,8 +204,6 @@ locked-tears_nothing g cpu page (inr (inr pages_out)) = ap teardown_of pages_out
 -- ---- no teardown changes
 
 -- no page has the tag of a page of a mapping, and no swap slot is assigned to it
-abbrev pub IsUntagged : CacheView → (slot index : ℕ) → Type 0
-IsUntagged cache slot index = (page_of cache (Anon slot index) ≡ None) × (swap_slot cache (Anon slot index) ≡ None)
 
 -- what has been taken off a mapping that is torn down stays off
 abbrev pub KeepsUntagged : Parts → CacheView → Type 0

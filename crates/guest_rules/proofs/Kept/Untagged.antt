@@ -2,12 +2,12 @@
 use Rattle.std.proofs.Common.{◌≡◌, ℕ, zero, suc, List, [], ◌∷◌, get_or, set, Option, Some, None, refl, ◌∙◌}
 use Rattle.cmm_types.specs.declared.page.Tag.{Tag}
 use Rattle.cmm_types.specs.declared.page.Tag.TheVariants.{Anon}
-use Rattle.guest_cache.specs.CacheView.{CacheView, index_place, page_of, without_page, swap_slot, unassigned}
-use Rattle.guest_rules.proofs.Kept.SwapLaws.{AreDistinctSlots, SwapChange, page_of-swapped, swap_slot-is, swap_slot-released}
-use Rattle.guest_rules.proofs.Kept.TeardownsKept.{IsUntagged}
+use Rattle.guest_cache.specs.CacheView.{CacheView, index_place, page_of, without_page, swap_slot, unassigned, HasOneSwapSlot}
+use Rattle.guest_rules.specs.Fit.{IsUntagged}
+use Rattle.guest_rules.proofs.Kept.SwapLaws.{SwapChange, page_of-swapped, swap_slot-is, swap_slot-released}
 
 -- its swap slot is free
-pub untagged-unassigned : (cache : CacheView) (slot index : ℕ) → AreDistinctSlots cache → page_of cache (Anon slot index) ≡ None
+pub untagged-unassigned : (cache : CacheView) (slot index : ℕ) → HasOneSwapSlot cache → page_of cache (Anon slot index) ≡ None
     → IsUntagged (unassigned cache (swap_slot cache (Anon slot index))) slot index
 untagged-unassigned cache slot index distinct none = of (swap_slot cache (Anon slot index)) refl
   where
@@ -30,12 +30,12 @@ pub page_of-without : (cache : CacheView) (slot index : ℕ) → page_of (withou
 unfolding without_page
 page_of-without cache slot index = none_there cache.index (index_place cache (Anon slot index))
 
-pub distinct-without : (cache : CacheView) (tag : Tag) → AreDistinctSlots cache → AreDistinctSlots (without_page cache tag)
+pub distinct-without : (cache : CacheView) (tag : Tag) → HasOneSwapSlot cache → HasOneSwapSlot (without_page cache tag)
 unfolding without_page
 distinct-without cache tag distinct = distinct
 
 -- both
-pub untagged-torn_off : (cache : CacheView) (slot index : ℕ) → AreDistinctSlots cache
+pub untagged-torn_off : (cache : CacheView) (slot index : ℕ) → HasOneSwapSlot cache
     → IsUntagged (unassigned (without_page cache (Anon slot index)) (swap_slot (without_page cache (Anon slot index)) (Anon slot index))) slot index
 untagged-torn_off cache slot index distinct =
     untagged-unassigned (without_page cache (Anon slot index)) slot index (distinct-without cache (Anon slot index) distinct) (page_of-without cache slot index)

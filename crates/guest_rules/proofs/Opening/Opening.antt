@@ -31,7 +31,7 @@ use Rattle.guest_rules.specs.declared.processor.Phase.TheVariants.{Start, Fill, 
 use Rattle.guest_rules.specs.declared.processor.Processor.{Processor}
 use Rattle.guest_rules.specs.GuestState.{first_processor, processor_at, opening_guest}
 use Rattle.guest_rules.specs.Fresh.{AreFresh}
-use Rattle.guest_rules.specs.Fit.{PagesFit, LocksFit, TeardownsFit, FlatFit, JournalFit, FaultsFit, Fit, IsFlatTag, flat_page, backing, current, current_at, one_if_lost, commands_of, entries_of}
+use Rattle.guest_rules.specs.Fit.{PagesFit, LocksFit, TeardownsFit, FlatFit, JournalFit, FaultsFit, Fit, IsFlatTag, flat_page, backing, current, current_at, one_if_lost, command_count, entries_of}
 use Rattle.guest_rules.proofs.Kept.Faults.{sum_below-le}
 use Rattle.guest_rules.proofs.Kept.PageFits.{EachPageFits, PageFits-free, HintsFit-from, ContentsFit-from}
 use Rattle.guest_rules.proofs.Kept.TagsKept.{TagsFit-from}
@@ -100,7 +100,7 @@ JournalFit-opening : (plan : GuestPlan) → JournalFit (opening_guest plan)
 JournalFit-opening plan = record {
   legal = tt {0};
   places = λ cpu below. ap (λ (p : Progress). p.next) (all-same plan.cpus at_first cpu) ∙ sym (entries cpu);
-  within = λ cpu below. subst (λ n. n ≤ commands_of plan cpu) (sym (entries cpu)) (omega arith);
+  within = λ cpu below. subst (λ n. n ≤ command_count plan cpu) (sym (entries cpu)) (omega arith);
   counted = sym (no_entry plan.cpus);
   ended = λ cpu slot index phase. (let bad : Start ≡ Teardown slot index = ap (λ (p : Processor). p.phase) (sym (processor-opening plan cpu)) ∙ phase in absurd cc);
 }

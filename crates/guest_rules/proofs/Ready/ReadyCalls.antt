@@ -28,9 +28,9 @@ use Rattle.guest_rules.specs.declared.processor.Processor.{Processor}
 use Rattle.guest_rules.specs.GuestState.{GuestState, processor_at, first_processor}
 use Rattle.guest_rules.specs.Rows.{backing_at}
 use Rattle.guest_rules.specs.Calls.{CanClear, CanMakeRoom, CanWriteBack}
-use Rattle.guest_rules.specs.Fit.{SizesFit, Fit, commands_of, all_commands, answered_early, entries_of, IsSyncing, IsTearing}
+use Rattle.guest_rules.specs.Fit.{SizesFit, Fit, command_count, all_commands, answered_early, entries_of, IsSyncing, IsTearing}
 use Rattle.guest_rules.proofs.Cases.TurnCases.{Has, Starts, HasItsTag, pin_op}
-use Rattle.guest_rules.proofs.Cases.Commands.{command-below, commands_of-le, command-in_range, process_of-below}
+use Rattle.guest_rules.proofs.Cases.Commands.{command-below, command_count-le, command-in_range, process_of-below}
 use Rattle.guest_rules.proofs.Kept.PageFits.{tagged-below}
 use Rattle.guest_rules.proofs.Kept.EntryLaws.{place-tagged, some_writer}
 use Rattle.guest_rules.proofs.Kept.PinLaws.{pins_within-some, pins_within-most}
@@ -257,14 +257,14 @@ unpin-some g v d cpu number index page f starts has =
 -- a processor has at most so many commands
 pub place-below : (g : GuestState) (v : StorageView) (d : DiskView) (cpu : ℕ) (op : Op) → Fit g v d → command_of g.plan cpu (processor_at g cpu).place ≡ Some op
     → (processor_at g cpu).place < MAX_COMMANDS
-place-below g v d cpu op f command = omega (arith, command-below g.plan cpu (processor_at g cpu).place op command, commands_of-le g.plan cpu f.sizes.range)
+place-below g v d cpu op f command = omega (arith, command-below g.plan cpu (processor_at g cpu).place op command, command_count-le g.plan cpu f.sizes.range)
 
 -- the plan with other processors
 abbrev with_cpus : GuestPlan → List CpuPlan → GuestPlan
 with_cpus plan cpus = record plan { cpus = cpus }
 
 entries-le : (plan : GuestPlan) (processors : List Processor) (cpus : List CpuPlan) → length processors ≡ length cpus
-    → ((q : ℕ) → q < length processors → entries_of (get_or processors q first_processor) ≤ commands_of (with_cpus plan cpus) q)
+    → ((q : ℕ) → q < length processors → entries_of (get_or processors q first_processor) ≤ command_count (with_cpus plan cpus) q)
     → sum_by entries_of processors ≤ sum_by (λ cpu. length cpu.commands) cpus
 entries-le plan [] [] size each = omega arith
 entries-le plan [] (c ∷ cpus) size each = absurd (omega arith)
@@ -275,8 +275,8 @@ entries-le plan (p ∷ processors) (c ∷ cpus) size each =
     omega (arith, first, rest, sum_by-cons entries_of p processors, sum_by-cons (λ (x : CpuPlan). length x.commands) c cpus)
 
 entries-lt : (plan : GuestPlan) (cpu : ℕ) (processors : List Processor) (cpus : List CpuPlan) → length processors ≡ length cpus
-    → ((q : ℕ) → q < length processors → entries_of (get_or processors q first_processor) ≤ commands_of (with_cpus plan cpus) q) → cpu < length processors
-    → entries_of (get_or processors cpu first_processor) < commands_of (with_cpus plan cpus) cpu
+    → ((q : ℕ) → q < length processors → entries_of (get_or processors q first_processor) ≤ command_count (with_cpus plan cpus) q) → cpu < length processors
+    → entries_of (get_or processors cpu first_processor) < command_count (with_cpus plan cpus) cpu
     → sum_by entries_of processors < sum_by (λ cpu. length cpu.commands) cpus
 entries-lt plan cpu [] [] size each below here = absurd (omega arith)
 entries-lt plan cpu [] (c ∷ cpus) size each below here = absurd (omega arith)
@@ -301,7 +301,7 @@ one_left place early commands none below = omega (arith, none, below)
 pub journal-room : (g : GuestState) (v : StorageView) (d : DiskView) (cpu : ℕ) (op : Op) → Fit g v d → cpu < length g.processors → command_of g.plan cpu (processor_at g cpu).place ≡ Some op
     → answered_early (processor_at g cpu).phase ≡ 0 → length g.journal < all_commands g.plan
 journal-room g v d cpu op f below command early =
-    let left = one_left (processor_at g cpu).place (answered_early (processor_at g cpu).phase) (commands_of g.plan cpu) early (command-below g.plan cpu (processor_at g cpu).place op command) in
+    let left = one_left (processor_at g cpu).place (answered_early (processor_at g cpu).phase) (command_count g.plan cpu) early (command-below g.plan cpu (processor_at g cpu).place op command) in
     omega (arith, entries-lt g.plan cpu g.processors g.plan.cpus f.sizes.processors f.journal.within below left, f.journal.counted)
 
 -- 8 processors of at most 10,000 commands

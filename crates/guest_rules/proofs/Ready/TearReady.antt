@@ -31,5 +31,5 @@ tearing-tears g v d cpu slot index page f k there unlocked =
       is_tag = is;
       tagged = (f.pages.found page (Anon slot index) is there).1;
       unlocked = unlocked;
-      once = record { same = f.tags.distinct };
+      once = f.tags.distinct;
     }

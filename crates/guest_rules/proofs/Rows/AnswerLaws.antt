@@ -32,10 +32,10 @@ use Rattle.guest_rules.specs.Rows.{freed, handled, handler, rehint, tell, make_s
 use Rattle.guest_rules.specs.Syncs.{locked, unlocked, cleaned, sync_page, sync_owned, write_back}
 use Rattle.guest_rules.specs.Calls.{CanTear}
 use Rattle.guest_rules.specs.Answers.{HasTag, CanBeTold, HasBeenFilled, IsToBeFilled, IsToBeWritten, IsFree, IsHandled, WasDiscarded, MayBeDirty, IsHinted, IsRetold, StableAnswer, MissedAnswer, EntryMissed, ReadAnswer, WriteAnswer, LoadAnswer, StoreAnswer, PinAnswer, ResolveAnswer, ClearAnswer, TearAnswer, FillAnswer, LookAnswer, SyncAnswer, IsUnlocked, BackAnswer}
+use Rattle.guest_rules.specs.Fit.{IsUntagged}
 use Rattle.guest_rules.proofs.Cases.TurnCases.{IsRehinted}
 use Rattle.guest_rules.proofs.Rows.ValueLaws.{hint-stale}
 use Rattle.guest_rules.proofs.Kept.RowChanges.{change-freed, freed-free, freed-cache, freed-faults, freed-maps, handled-pages, handled-maps, change-changed, change-filled, filled_info, change-unmapped, maps-unmapped}
-use Rattle.guest_rules.proofs.Kept.TeardownsKept.{IsUntagged}
 use Rattle.guest_rules.proofs.Kept.Untagged.{untagged-torn_off}
 use Rattle.guest_rules.proofs.Kept.SyncTables.{change-locked, change-unlocked, change-cleaned}
 use Rattle.guest_rules.proofs.Rows.Held.{Stabled, rehinted_value, seen_handler, seen_make_stable, seen_rehint}
@@ -340,7 +340,7 @@ torn_off-untagged : (parts : Parts) (v : StorageView) (slot index page : ℕ) �
 torn_off-untagged parts v slot index page can =
     subst (λ c. IsUntagged c slot index)
     (sym (released-cache (freed parts page) slot index ∙ ap (λ c. unassigned c (swap_slot c (Anon slot index))) (freed-cache parts page (Anon slot index) can.tagged)))
-    (untagged-torn_off parts.cache slot index can.once.same)
+    (untagged-torn_off parts.cache slot index can.once)
 
 pub tear-says : (parts : Parts) (slot index page : ℕ) (v : StorageView) (d : DiskView) (a : Parts) (r : Placed) (w : StorageView) (e : DiskView)
     → CanTear parts v slot index page → Seen (tear_page parts slot index page) v d (a, r) w e → TearAnswer parts slot index page v a r w

@@ -1,7 +1,8 @@
 use Rattle.std.proofs.Common.{◌∙◌, ◌<◌, ap, length, subst, sym}
 use Rattle.std.proofs.lemmas.List.{get_or_default}
 use Rattle.guest_rules.specs.GuestState.{opening_guest}
-use Rattle.cmm_world.specs.WorldState.{guest_at, no_plan}
+use Rattle.cmm_types.specs.NoPlan.{no_plan}
+use Rattle.cmm_world.specs.WorldState.{guest_at}
 use Rattle.cmm_world.specs.WorldView.{WorldView}
 use Rattle.cmm_world.proofs.world.World.guest.Goals as goal
 

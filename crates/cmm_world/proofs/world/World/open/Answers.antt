@@ -1,6 +1,7 @@
 use Rattle.std.proofs.Common.{◌≡◌, ◌∙◌, [], ap, subst, sym, length, map}
 use Rattle.guest_rules.specs.GuestState.{opening_guest}
-use Rattle.cmm_world.specs.WorldState.{WorldState, opening_disk, opening_world}
+use Rattle.cmm_io.specs.DiskState.{opening_disk}
+use Rattle.cmm_world.specs.WorldState.{WorldState, opening_world}
 use Rattle.cmm_world.specs.WorldFit.{IsWorld}
 use Rattle.cmm_world.proofs.OpeningWorld.{opening_fits, opening_parts}
 use Rattle.cmm_world.proofs.world.World.open.Goals as goal

@@ -6,14 +6,15 @@ use Rattle.cmm_io.specs.DiskState.{disk_view, opened}
 use Rattle.host_plain.specs.HostState.{host_view}
 use Rattle.guest_rules.specs.GuestState.{opening_guest}
 use Rattle.guest_rules.specs.Fit.{Fit}
-use Rattle.cmm_world.specs.WorldState.{WorldState, guest_at, disk_at, no_plan}
+use Rattle.cmm_types.specs.NoPlan.{no_plan}
+use Rattle.cmm_world.specs.WorldState.{WorldState, guest_at, disk_at}
 use Rattle.cmm_world.specs.WorldView.{WorldView, plans_of}
 use Rattle.cmm_world.proofs.Events.{cpu_there}
 use Rattle.cmm_types.specs.declared.event.Answer.TheVariants.{Turn}
 use Rattle.cmm_storage.specs.Program.{Does}
 use Rattle.guest_rules.specs.Turns.{turn}
 use Rattle.cmm_world.specs.Played.{PlaysEvent}
-use Rattle.cmm_world.proofs.Carried.{carried}
+use Rattle.cmm_storage.specs.Laws.CarriedLaws.{storage_carried}
 use Rattle.cmm_world.proofs.HostSteps.{host_step, disk_step}
 use Rattle.cmm_world.proofs.TurnRuns.{AfterTurn, after_turn, with_turn}
 use Rattle.cmm_world.proofs.Playing.{plays_turn, seen_as}
@@ -46,7 +47,7 @@ step-requires-clause-fit c =
 pub shape_of-self-inside : goal.shape_of-self-inside
 shape_of-self-inside c =
     sym c.view-pages.ensures.same
-    ∙ sym (carried host_step disk_step (λ s t. t.host.ghost_name ≡ s.host.ghost_name) (λ s t same. ap (λ q. q.host.ghost_name) same) (λ s m t first second. second ∙ first) (λ s call t q. q.3)
+    ∙ sym (storage_carried host_step disk_step (λ s t. t.host.ghost_name ≡ s.host.ghost_name) (λ s t same. ap (λ q. q.host.ghost_name) same) (λ s m t first second. second ∙ first) (λ s call t q. q.3)
     _ _ _ _ _ _ c.step.ensures.row)
 
 abbrev inside : (c : goal.After-self-2-1) → WorldState
