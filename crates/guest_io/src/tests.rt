@@ -2,6 +2,7 @@
 ghost use Rattle.std.specs.Prelude.{◌≡◌, ◌<◌, None, IfOk};
 ghost use Rattle.guest_pages.specs.PagesView.{opening_pages, popped};
 ghost use Rattle.guest_maps.specs.MapsView.{IsPlace};
+ghost use Rattle.guest_rules.specs.Calls.{IsInUse};
 
 use crate::{pin_page, read_page, write_page};
 use cmm_storage::{Noise, NoisyStorage, Storage};
@@ -37,21 +38,35 @@ fn prepare<St: Storage>(st: &mut St)
     }
 }
 
-/// What a read of four bytes of the page answers, the next free page then, and the count of faults. The first two
-/// noises come before the read.
-#[tactic(auto, unfolding(guest_pages::specs::PagesView::popped))]
-fn read(
-    alloc: Global,
-    noises: [Noise; 4],
-) -> Result<(Result<Bytes64, Missed>, Option<u32>, u64), AllocError> {
-    let mut parts = Parts {
-        pages: Pages::open(alloc, 1)?,
+/// A guest's only page, which isn't free.
+fn used_page(alloc: Global) -> Result<Pages, AllocError>
+    ensures { IfOk result (λ pages. pages ≡ popped (opening_pages 1)) }
+{
+    let mut pages = Pages::open(alloc, 1)?;
+    pages.pop();
+    Ok(pages)
+}
+
+/// The tables of a guest of one page, which isn't free, without files and mappings.
+fn one_page(alloc: Global) -> Result<Parts, AllocError>
+    ensures { IfOk result (λ parts. IsInUse parts 0) }
+{
+    Ok(Parts {
+        pages: used_page(alloc)?,
         cache: Cache::open(alloc, &[], 0, 0)?,
         maps: Maps::open(alloc, 1)?,
         hand: 0,
         faults: 0,
-    };
-    parts.pages.pop();
+    })
+}
+
+/// What a read of four bytes of the page answers, the next free page then, and the count of faults. The first two
+/// noises come before the read.
+fn read(
+    alloc: Global,
+    noises: [Noise; 4],
+) -> Result<(Result<Bytes64, Missed>, Option<u32>, u64), AllocError> {
+    let mut parts = one_page(alloc)?;
     let mut storage = NoisyStorage::open(alloc, 1, Vec::from_array(alloc, noises)?)?;
     prepare(&mut storage);
     let answer = read_page(&mut parts, &mut storage, 0, 4092, 4);
@@ -96,16 +111,8 @@ fn a_reader_meets_every_answer(rt: HostRuntime) -> Result<(), Fail> {
 
 /// What a write of four bytes to the page answers, whether the page is dirty then, and the count of faults. The first
 /// two noises come before the write.
-#[tactic(auto, unfolding(guest_pages::specs::PagesView::popped))]
 fn write(alloc: Global, noises: [Noise; 4]) -> Result<(Result<(), Missed>, bool, u64), AllocError> {
-    let mut parts = Parts {
-        pages: Pages::open(alloc, 1)?,
-        cache: Cache::open(alloc, &[], 0, 0)?,
-        maps: Maps::open(alloc, 1)?,
-        hand: 0,
-        faults: 0,
-    };
-    parts.pages.pop();
+    let mut parts = one_page(alloc)?;
     let mut storage = NoisyStorage::open(alloc, 1, Vec::from_array(alloc, noises)?)?;
     prepare(&mut storage);
     let bytes = Bytes64::from_slice(&[1; 4]).unwrap();
@@ -136,15 +143,6 @@ fn a_writer_leaves_the_page_dirty_where_it_wrote(rt: HostRuntime) -> Result<(), 
         (Err(paging), false, 0)
     );
     Ok(())
-}
-
-/// A guest's only page, which isn't free.
-fn used_page(alloc: Global) -> Result<Pages, AllocError>
-    ensures { IfOk result (λ pages. pages ≡ popped (opening_pages 1)) }
-{
-    let mut pages = Pages::open(alloc, 1)?;
-    pages.pop();
-    Ok(pages)
 }
 
 /// A mapping of one page of a file, in the first slot.

@@ -93,13 +93,12 @@ pub page-of : (region : RegionView) (pages : List PageParts) (place : ℕ) (page
     IsFramedOf region page
 page-of region pages place page all below found = subst (λ (p : PageParts). IsFramedOf region p) (sym found) (all place page below)
 
--- what is behind the frames that were there
-pub gathered : (old mid new free back : List FrameView) (n : ℕ) → mid ≡ old ++ free → new ≡ mid ++ back → n ≡ length old → (take n new ≡ old) × (drop n new ≡ free ++ back)
-gathered old mid new free back n first second count =
-    let all : new ≡ old ++ (free ++ back) = second ∙ ap (λ (fs : List FrameView). fs ++ back) first ∙ append_assoc old free back in (
-      ap (λ k. take k new) count ∙ ap (take (length old)) all ∙ take-append_seam old (free ++ back),
-      ap (λ k. drop k new) count ∙ ap (drop (length old)) all ∙ drop-append_seam old (free ++ back),
-    )
+-- what was put behind the frames that were there
+pub behind : (old free new : List FrameView) (n : ℕ) → new ≡ old ++ free → n ≡ length old → (take n new ≡ old) × (drop n new ≡ free)
+behind old free new n all count = (
+  ap (λ k. take k new) count ∙ ap (take (length old)) all ∙ take-append_seam old free,
+  ap (λ k. drop k new) count ∙ ap (drop (length old)) all ∙ drop-append_seam old free,
+)
 
 -- how often a number is among the frames of the pages and the free ones
 pub all-numbers : (number : ℕ) (pages : List PageParts) (free : List FrameView) (frames : ℕ) (v : BodiesView) → bodies_view pages free frames ≡ v →

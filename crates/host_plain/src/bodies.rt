@@ -109,21 +109,22 @@ impl Bodies {
         })
     }
 
-    /// The region, and all its frames, which go behind those in the list. The list has room for them.
-    pub fn close(mut self, into: &mut Vec<Frame>) -> Region
-        requires room { vec_len into.old + self.frames ≤ vec_capacity into.old }
-        ensures count { result.count ≡ self.frames }
-        ensures len { vec_len into.new ≡ vec_len into.old + self.frames }
-        ensures before { take (vec_len into.old) into.new.items ≡ into.old.items }
-        ensures of_region { All (IsOf result) (drop (vec_len into.old) into.new.items) }
-        ensures numbers { (number : ℕ) → sum_by (is_number number) (map (λ f. f.number) (drop (vec_len into.old) into.new.items))
+    /// The region, and all its frames. It takes no memory.
+    pub fn into_frames(self) -> (Region, Vec<Frame>)
+        ensures count { result.0.count ≡ self.frames }
+        ensures len { length result.1.items ≡ self.frames }
+        ensures of_region { All (IsOf result.0) result.1.items }
+        ensures numbers { (number : ℕ) → sum_by (is_number number) (map (λ f. f.number) result.1.items)
             ≡ sum_by (is_taken number) self.numbers.taken + sum_by (is_number number) self.numbers.spare }
     {
-        match into.append(&mut self.free) {
-            Ok(()) => take_frames(self.pages, into),
-            Err(_) => unreachable!(),
-        }
-        self.region
+        let Bodies {
+            pages,
+            mut free,
+            frames: _,
+            region,
+        } = self;
+        take_frames(pages, &mut free);
+        (region, free)
     }
 
     /// How many frames are free.

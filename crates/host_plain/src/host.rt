@@ -167,6 +167,16 @@ impl Host {
         self.memory.resident() as u32
     }
 
+    /// The region, and all its frames: none is missing, so the region can be closed with them. It takes no memory.
+    pub fn into_frames(self) -> (Region, Vec<Frame>)
+        ensures count { result.0.count ≡ self.memory.frames }
+        ensures len { length result.1.items ≡ self.memory.frames }
+        ensures of_region { All (IsOf result.0) result.1.items }
+        ensures all { missing result.0.count result.1.items ≡ [] }
+    {
+        self.memory.into_frames()
+    }
+
     /// Gives the region back, and moves all its frames behind those in the list, which has room for them. So the region
     /// can be closed with the frames that were moved: none is missing. It takes no memory.
     pub fn close(self, into: &mut Vec<Frame>) -> Region
@@ -177,7 +187,11 @@ impl Host {
         ensures of_region { All (IsOf result) (drop (vec_len into.old) into.new.items) }
         ensures all { missing result.count (drop (vec_len into.old) into.new.items) ≡ [] }
     {
-        self.memory.close(into)
+        let (region, mut frames) = self.into_frames();
+        match into.append(&mut frames) {
+            Ok(()) => region,
+            Err(_) => unreachable!(),
+        }
     }
 
     // The place of the served guest's page.

@@ -89,16 +89,14 @@ impl Memory {
         })
     }
 
-    /// The region, and all its frames, which go behind those in the list. The list has room for them.
-    pub fn close(self, into: &mut Vec<Frame>) -> Region
-        requires room { vec_len into.old + self.frames ≤ vec_capacity into.old }
-        ensures count { result.count ≡ self.frames }
-        ensures len { vec_len into.new ≡ vec_len into.old + self.frames }
-        ensures before { take (vec_len into.old) into.new.items ≡ into.old.items }
-        ensures of_region { All (IsOf result) (drop (vec_len into.old) into.new.items) }
-        ensures all { missing result.count (drop (vec_len into.old) into.new.items) ≡ [] }
+    /// The region, and all its frames. It takes no memory.
+    pub fn into_frames(self) -> (Region, Vec<Frame>)
+        ensures count { result.0.count ≡ self.frames }
+        ensures len { length result.1.items ≡ self.frames }
+        ensures of_region { All (IsOf result.0) result.1.items }
+        ensures all { missing result.0.count result.1.items ≡ [] }
     {
-        self.bodies.close(into)
+        self.bodies.into_frames()
     }
 
     pub fn words(&self) -> &[Word]

@@ -47,7 +47,7 @@ pub fn pieces(alloc: Global, count: u32) -> Result<Vec<Piece>, AllocError>
 }
 
 impl Piece {
-    ghost use Rattle.page_pieces.specs.Lending.{LendsBytes};
+    ghost use Rattle.page_pieces.specs.Lending.{LendsPiece};
 
     /// The piece over this room, which begins at `ptr`.
     fn over(ptr: *mut u8, room: Room) -> Piece
@@ -71,7 +71,7 @@ impl Piece {
 
     /// The bytes, to be written. No other piece changes with them.
     pub fn bytes_mut(&mut self) -> &mut [u8]
-        ensures* writes { sem 𝓛 (LendsBytes self.entry result) }
+        ensures* writes { sem 𝓛 (LendsPiece self.entry result) }
         ensures bytes { result.now ≡ self.old }
         ensures whole { length result.now ≡ PAGE }
     {

@@ -1,22 +1,8 @@
-use Rattle.std.proofs.Common.{arith, rules, ap, ◌∙◌}
-use Rattle.cmm_types.specs.declared.plan.TheConstants.{MAX_MAPPING_SLOTS}
-use Rattle.guest_pages.specs.PagesView.{popped}
-use Rattle.guest_maps.specs.MapsView.{MapsView}
-use Rattle.guest_maps.specs.Laws.MapsLaws.{pages-opening}
+use Rattle.std.proofs.Common.{rules}
 use Rattle.guest_io.proofs.tests.read.Goals as goal
 
 pub read_page-answer-requires : goal.read_page-answer-requires
-unfolding popped
 read_page-answer-requires c = record {
-  takes = record {
-    in_use = record {
-      below = search rules;
-      shown = omega (arith, ap (λ (m : MapsView). m.pages) c.in_ok-open-3.ensures ∙ pages-opening 1 MAX_MAPPING_SLOTS);
-      not_free = search rules;
-      tag = search rules;
-    };
-    there = search rules;
-    none_held = search rules;
-  };
+  takes = record { in_use = c.in_ok-parts.ensures; there = search rules; none_held = search rules };
   bytes = record { few = search rules; within = search rules };
 }
