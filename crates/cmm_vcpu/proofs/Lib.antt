@@ -1,0 +1,11 @@
+mod Counts
+mod KernelTurns
+mod OpeningKernel
+mod Completed
+mod Looked
+mod LookedAll
+mod TablesMore
+mod GroupsEnded
+mod OpenGroups
+mod OpenMachine
+mod Lost
