@@ -8,11 +8,14 @@ ghost use Rattle.cmm2_cli.specs.Status.{has_written};
 
 use cmm_io::{Sink, Source, StdSource, WriteFault};
 use cmm_output::Output;
-use cmm2_cli::{Status, cmm2_replay};
-use std::alloc::AllocError;
+use cmm2_cli::{Status, cmm2};
+use host_shared::PassGate;
+use std::alloc::{AllocError, Global};
 use std::env;
-use std::io::{ErrorKind, Write};
+use std::io::{ErrorKind, Read, Write};
 use std::process::ExitCode;
+use std::sync::Wait;
+use std::thread::Threads;
 
 /// The words of the command line behind the program's name. A word that isn't text makes no command line.
 fn words_of(rt: &HostRuntime) -> Result<Vec<String>, AllocError> {
@@ -42,15 +45,21 @@ fn finish<W: Write + Drop>(output: &mut Output<W>, status: Status) -> Status
     }
 }
 
-/// Does what the words ask for, from standard input to standard output, which is written 64 KiB at a time. The status
+/// Does what the words ask for, from an input to an output, which is written 64 KiB at a time. The status
 /// tells of a failed read exactly where one was counted, and of a failed write likewise; where none failed, nothing is
 /// held back.
-fn serve(rt: &HostRuntime, words: &[String]) -> Status {
-    let Ok(mut output) = Output::open(rt.alloc(), rt.stdout()) else {
+fn serve<T: Threads + Wait + Sync, R: Read + Drop, W: Write + Drop>(
+    rt: &T,
+    alloc: Global,
+    words: &[String],
+    input: R,
+    output: W,
+) -> Status {
+    let Ok(mut output) = Output::open(alloc, output) else {
         return Status::NoMemory;
     };
-    let mut source = StdSource::new(rt.stdin());
-    let status = cmm2_replay(rt.alloc(), words, &mut source, &mut output);
+    let mut source = StdSource::new(input);
+    let status = cmm2(rt, alloc, words, &mut source, &mut output, &PassGate);
     let status = finish(&mut output, status);
     let reads_failed = source.faults();
     let writes_failed = output.faults();
@@ -63,7 +72,7 @@ fn serve(rt: &HostRuntime, words: &[String]) -> Status {
 
 fn main(rt: HostRuntime) -> ExitCode {
     let status = match words_of(&rt) {
-        Ok(words) => serve(&rt, words.as_slice()),
+        Ok(words) => serve(&rt, rt.alloc(), words.as_slice(), rt.stdin(), rt.stdout()),
         Err(_) => Status::NoMemory,
     };
     ExitCode::from(status.code())

@@ -4,3 +4,5 @@ pub mod Refusal
 pub mod Playing
 pub mod Demo
 pub mod Outcome
+pub mod Running
+pub mod Calls

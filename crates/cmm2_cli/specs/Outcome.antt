@@ -1,6 +1,6 @@
 -- What the program answers to its words and its input, what it reads of the input, and what it writes.
-use Rattle.std.specs.Prelude.{◌≡◌, ◌⊎◌, ℕ, ◌+◌, ◌<◌, ◌≤◌, List, ◌++◌, length, take, codes, false, Option, Result, Ok, Err}
-use Rattle.std.specs.Io.KnownBytes.{Appends}
+use Rattle.std.specs.Prelude.{◌≡◌, ◌⊎◌, ℕ, ◌+◌, ◌<◌, ◌≤◌, List, ◌++◌, length, take, codes, false, Option, Result, Ok, Err, IfSome}
+use Rattle.std.specs.Io.KnownBytes.{Appends, IsAtEnd}
 use Rattle.cmm_types.specs.declared.plan.Scenario.{Scenario}
 use Rattle.cmm_io.specs.Faults.{raised}
 use Rattle.cmm_io.specs.SourceBytes.{HasTaken, HasTakenAtMost}
@@ -26,7 +26,7 @@ use Rattle.cmm2_cli.specs.declared.input.Input.{Input}
 use Rattle.cmm2_cli.specs.declared.input.Input.TheVariants.{Scenario as ScenarioInput, Report}
 use Rattle.cmm2_cli.specs.declared.refusal.Refusal.TheVariants.{Long, NoReport, NotJson}
 use Rattle.cmm2_cli.specs.declared.status.Status.{Status}
-use Rattle.cmm2_cli.specs.declared.status.Status.TheVariants.{Done, ScenarioRefused, ReadFault, WriteFault, NoMemory}
+use Rattle.cmm2_cli.specs.declared.status.Status.TheVariants.{Done, ScenarioRefused, ReadFault, WriteFault, NoMemory, Rejected}
 use Rattle.cmm2_cli.specs.Status.{verdict_status}
 use Rattle.cmm2_cli.specs.Refusal.{refusal_text, fault_text}
 use Rattle.cmm2_cli.specs.Reports.{reports_of}
@@ -71,16 +71,16 @@ module _ {K : Type 0} (faults : K → ℕ) (written : K → Option (List ℕ)) (
     pub summary : Answers (demo_text start size) Done result
     pub run : IsLegalRun (generated start size)
 
-  -- what the bytes mean is played, or decides the line of a refusal
-  abbrev pub AnswersReading : Result Scenario ScenarioError → Status → Type 0
-  AnswersReading (Ok plan) result = Plays plan result
-  AnswersReading (Err errors.NotJson) result = Answers (refusal_text NotJson) ScenarioRefused result
-  AnswersReading (Err (errors.Fault path kind)) result = Answers (fault_text path kind) ScenarioRefused result
-  AnswersReading (Err errors.NoMemory) result = ⊥
+  -- what the bytes mean is a plan, which has its answer, or decides the line of a refusal
+  abbrev pub AnswersReading : (Planned : Scenario → Status → Type 0) → Result Scenario ScenarioError → Status → Type 0
+  AnswersReading Planned (Ok plan) result = Planned plan result
+  AnswersReading Planned (Err errors.NotJson) result = Answers (refusal_text NotJson) ScenarioRefused result
+  AnswersReading Planned (Err (errors.Fault path kind)) result = Answers (fault_text path kind) ScenarioRefused result
+  AnswersReading Planned (Err errors.NoMemory) result = ⊥
 
-  -- a scenario is read
-  abbrev pub AnswersScenario : List ℕ → Status → Type 0
-  AnswersScenario bytes result = AnswersReading (scenario_of bytes) result ⊎ WroteNothing NoMemory result
+  -- a scenario is read, and its plan has its answer
+  abbrev pub AnswersScenario : (Planned : Scenario → Status → Type 0) → List ℕ → Status → Type 0
+  AnswersScenario Planned bytes result = AnswersReading Planned (scenario_of bytes) result ⊎ WroteNothing NoMemory result
 
   -- a verdict is told, and the status is its own; and each refusal has its line
   abbrev pub AnswersJudged : Result Verdict InputError → Status → Type 0
@@ -99,7 +99,7 @@ module _ {K : Type 0} (faults : K → ℕ) (written : K → Option (List ℕ)) (
 
   -- an input within the limit has the answer that its bytes mean
   abbrev pub AnswersBytes : Input → List ℕ → Status → Type 0
-  AnswersBytes ScenarioInput bytes result = AnswersScenario bytes result
+  AnswersBytes ScenarioInput bytes result = AnswersScenario Plays bytes result
   AnswersBytes Report bytes result = AnswersReport bytes result
 
 -- the most bytes of an input
@@ -108,25 +108,27 @@ limit_of ScenarioInput = MAX_INPUT
 limit_of Report = MAX_CHECKED
 
 -- the bytes of an input that the program takes: of one that is longer than the limit, one more than the limit
-abbrev pub taken_of : Input → List ℕ → List ℕ
-taken_of input bytes = take (limit_of input + 1) bytes
+abbrev pub taken_of : (limit : ℕ) → List ℕ → List ℕ
+taken_of limit bytes = take (limit + 1) bytes
 
-module _ {S : Type 0} (rest : S → Option (List ℕ)) (given : S → ℕ) (before after : S) {K : Type 0} (faults : K → ℕ) (written : K → Option (List ℕ)) (old new : K) (input : Input) where
+-- an input within the limit is answered by what it means
+module _ {S : Type 0} (rest : S → Option (List ℕ)) (given : S → ℕ) (before after : S) {K : Type 0} (faults : K → ℕ) (written : K → Option (List ℕ)) (old new : K)
+    (limit : ℕ) (Meant : List ℕ → Status → Type 0) where
   -- an input that is longer than the limit is refused
   pub record RefusesLong (bytes : List ℕ) (result : Status) : Type 0 where
-    pub long : limit_of input < length bytes
-    pub taken : HasTaken rest given before after (taken_of input bytes)
+    pub long : limit < length bytes
+    pub taken : HasTaken rest given before after (taken_of limit bytes)
     pub answer : Answers faults written old new (refusal_text Long) ScenarioRefused result
 
   -- another one is read whole
   pub record AnswersWhole (bytes : List ℕ) (result : Status) : Type 0 where
-    pub short : length bytes ≤ limit_of input
-    pub taken : HasTaken rest given before after (taken_of input bytes)
-    pub answer : AnswersBytes faults written old new input bytes result
+    pub short : length bytes ≤ limit
+    pub taken : HasTaken rest given before after (taken_of limit bytes)
+    pub answer : Meant bytes result
 
   -- memory ran out before all of it was read
   pub record ReadsNoMore (result : Status) : Type 0 where
-    pub taken : HasTakenAtMost rest given before after (limit_of input + 1)
+    pub taken : HasTakenAtMost rest given before after (limit + 1)
     pub answer : WroteNothing faults written old new NoMemory result
 
   abbrev pub AnswersInput : List ℕ → Status → Type 0
@@ -135,3 +137,12 @@ module _ {S : Type 0} (rest : S → Option (List ℕ)) (given : S → ℕ) (befo
   -- a read failed, or this is the answer to some input, of which these bytes were taken
   abbrev pub AnswersSome : Status → Type 0
   AnswersSome result = (result ≡ ReadFault) ⊎ ((bytes : List ℕ) × AnswersInput bytes result)
+
+  -- Unless a read failed, the input has its answer, where the source tells its bytes; all of it is read, or one byte more than the limit. Before
+  -- a read that failed no more was read than an input may have. Also where the source doesn't tell its bytes, the answer is one to some
+  -- input, of which as many bytes were read
+  pub record ReadsInput (result : Status) : Type 0 where
+    pub answer : IfSome (rest before) (λ bytes. (result ≡ ReadFault) ⊎ AnswersInput bytes result)
+    pub whole : (result ≡ Done) ⊎ (result ≡ Rejected) → IsAtEnd (rest after)
+    pub fault_within : result ≡ ReadFault → HasTakenAtMost rest given before after limit
+    pub some_input : AnswersSome result

@@ -47,7 +47,9 @@ fn summarize(alloc: Global, start: u64, size: u32) -> Result<Totals, AllocError>
 {
     let plan = generate(alloc, start, size)?;
     let world = played(alloc, &plan)?;
-    Ok(totals(&plan, &world))
+    let totals = totals(&plan, &world);
+    world.close();
+    Ok(totals)
 }
 
 /// Plays the scenario that is generated from a number, and writes what came of it in one line.

@@ -69,13 +69,14 @@ pub fn read_input<S: Source, K: Sink>(
     ensures no_write_fault { result ≢ Status.WriteFault → K.faults out.new ≡ K.faults out.old }
 
     // Otherwise the input has its answer. All of it is read, or one byte more than the limit.
-    ensures answer { IfSome (S.rest src.old) (λ bytes.
-        (result ≡ Status.ReadFault) ⊎ AnswersInput S.rest S.given src.old src.new K.faults K.written out.old out.new input bytes result) }
+    ensures answer { IfSome (S.rest src.old) (λ bytes. (result ≡ Status.ReadFault) ⊎ AnswersInput S.rest S.given src.old src.new
+        K.faults K.written out.old out.new (limit_of input) (AnswersBytes K.faults K.written out.old out.new input) bytes result) }
     ensures read_whole { (result ≡ Status.Done) ⊎ (result ≡ Status.Rejected) → IsAtEnd (S.rest src.new) }
 
     // Also where the source doesn't tell its bytes, the answer is one to some input, of which as many bytes were
     // read.
-    ensures some_input { AnswersSome S.rest S.given src.old src.new K.faults K.written out.old out.new input result }
+    ensures some_input { AnswersSome S.rest S.given src.old src.new
+        K.faults K.written out.old out.new (limit_of input) (AnswersBytes K.faults K.written out.old out.new input) result }
 {
     match read_all(alloc, src, input.limit()) {
         Ok(bytes) => answer(alloc, input, bytes.as_slice(), out),

@@ -12,12 +12,17 @@ mod program;
 mod refusal;
 mod replay;
 mod report;
+mod run;
+mod run_report;
+#[cfg(test)]
+mod run_tests;
 mod status;
 #[cfg(test)]
 mod tests;
 
 pub use input::Input;
-pub use program::cmm2_replay;
+pub use program::{cmm2, cmm2_replay, cmm2_run};
 pub use replay::MAX_INPUT;
 pub use report::write_replay;
+pub use run_report::write_run;
 pub use status::Status;

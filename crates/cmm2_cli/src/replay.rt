@@ -57,15 +57,17 @@ fn play<K: Sink>(alloc: Global, plan: &Scenario, out: &mut K) -> Status
         Ok(world) => {
             read_answers(world.answers());
             read_discards(&world);
-            report(out, &world)
+            let status = report(out, &world);
+            world.close();
+            status
         }
         Err(AllocError) => Status::NoMemory,
     }
 }
 
-/// Answers an input of a scenario.
+/// Answers an input of a scenario, which is played.
 pub fn answer_scenario<K: Sink>(alloc: Global, bytes: &[u8], out: &mut K) -> Status
-    ensures { AnswersScenario K.faults K.written out.old out.new bytes.now result }
+    ensures { AnswersScenario K.faults K.written out.old out.new (Plays K.faults K.written out.old out.new) bytes.now result }
 {
     match read_scenario(alloc, bytes) {
         Ok(plan) => play(alloc, &plan, out),

@@ -1,2 +1,3 @@
 mod Parser
 mod Lines
+mod FirstWord

@@ -14,16 +14,17 @@ use Rattle.cmm_line.specs.Words.{is_option}
 use Rattle.cmm_line.specs.Line.{has_leading_zero, is_decimal, decimal_number, start_and_size, line_named, line_in, line_of}
 
 -- no name has a line of these words
-all_none : (a b c d : Bool) → ◌≡◌ {A = Option Line} (if a then None else if b then None else if c then None else if d then None else None) None
-all_none true b c d = refl
-all_none false true c d = refl
-all_none false false true d = refl
-all_none false false false true = refl
-all_none false false false false = refl
+all_none : (a b c d e : Bool) → ◌≡◌ {A = Option Line} (if a then None else if b then None else if c then None else if d then None else if e then None else None) None
+all_none true b c d e = refl
+all_none false true c d e = refl
+all_none false false true d e = refl
+all_none false false false true e = refl
+all_none false false false false true = refl
+all_none false false false false false = refl
 
 too_many : (name a b c : List ℕ) (rest : List (List ℕ)) → line_named name (a ∷ b ∷ c ∷ rest) ≡ None
 unfolding line_named start_and_size
-too_many name a b c rest = all_none (bytes_eq name (codes "replay")) (bytes_eq name (codes "check")) (bytes_eq name (codes "gen")) (bytes_eq name (codes "demo"))
+too_many name a b c rest = all_none (bytes_eq name (codes "replay")) (bytes_eq name (codes "run")) (bytes_eq name (codes "check")) (bytes_eq name (codes "gen")) (bytes_eq name (codes "demo"))
 
 -- no words, or more than three, are no line
 pub other_count : (words : List (List ℕ)) → (words ≡ []) ⊎ (3 < length words) → line_in words ≡ None

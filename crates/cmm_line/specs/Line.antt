@@ -4,7 +4,7 @@ use Rattle.std.specs.List.{list_any}
 use Rattle.std.specs.Str.{bytes_eq, all_ascii_digits}
 use Rattle.std.specs.Str.Parse.{digits_value}
 use Rattle.cmm_line.specs.declared.line.Line.{Line}
-use Rattle.cmm_line.specs.declared.line.Line.TheVariants.{Replay, Check, Gen, Demo}
+use Rattle.cmm_line.specs.declared.line.Line.TheVariants.{Replay, Run, Check, Gen, Demo}
 use Rattle.cmm_line.specs.Words.{is_option}
 
 abbrev pub has_leading_zero : List ℕ → Bool
@@ -40,6 +40,7 @@ no_more_words line (word ∷ words) = None
 unfoldable pub line_named : List ℕ → List (List ℕ) → Option Line
 line_named name words =
     if bytes_eq name (codes "replay") then no_more_words Replay words
+    else if bytes_eq name (codes "run") then no_more_words Run words
     else if bytes_eq name (codes "check") then no_more_words Check words
     else if bytes_eq name (codes "gen") then option_map (λ p. Gen p.0 p.1) (start_and_size words)
     else if bytes_eq name (codes "demo") then option_map (λ p. Demo p.0 p.1) (start_and_size words)
@@ -59,6 +60,30 @@ IsSize size = (8 ≤ size) × (size ≤ 20000)
 -- a scenario can be generated with so many commands
 abbrev pub HasSize : Line → Type 0
 HasSize Replay = Unit {0}
+HasSize Run = Unit {0}
 HasSize Check = Unit {0}
 HasSize (Gen start size) = IsSize size
 HasSize (Demo start size) = IsSize size
+
+-- the first word is `run`
+abbrev pub begins_run : List (List ℕ) → Bool
+begins_run [] = false
+begins_run (word ∷ words) = bytes_eq word (codes "run")
+
+-- the line, where it is `run`
+abbrev pub run_line : Option Line → Option Line
+run_line None = None
+run_line (Some Replay) = None
+run_line (Some Run) = Some Run
+run_line (Some Check) = None
+run_line (Some (Gen start size)) = None
+run_line (Some (Demo start size)) = None
+
+-- the line, where it is another one than `run`
+abbrev pub other_line : Option Line → Option Line
+other_line None = None
+other_line (Some Replay) = Some Replay
+other_line (Some Run) = None
+other_line (Some Check) = Some Check
+other_line (Some (Gen start size)) = Some (Gen start size)
+other_line (Some (Demo start size)) = Some (Demo start size)

@@ -4,7 +4,7 @@
 mod line;
 mod words;
 
-pub use line::{Line, MAX_SIZE, MIN_SIZE, line_of};
+pub use line::{Line, MAX_SIZE, MIN_SIZE, begins_run, line_of};
 
 #[cfg(test)]
 mod tests;

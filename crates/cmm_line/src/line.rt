@@ -1,8 +1,8 @@
-ghost use Rattle.std.specs.Prelude.{◌≡◌, [], ◌∷◌, map, string_bytes, IfOk, IfSome};
+ghost use Rattle.std.specs.Prelude.{◌≡◌, [], ◌∷◌, map, codes, string_bytes, true, false, IfOk, IfSome};
 ghost use Rattle.std.specs.List.{list_any};
-ghost use Rattle.std.specs.Str.{all_ascii_digits};
+ghost use Rattle.std.specs.Str.{bytes_eq, all_ascii_digits};
 ghost use Rattle.cmm_line.specs.Words.{is_option, rest_of};
-ghost use Rattle.cmm_line.specs.Line.{IsSize, HasSize, has_leading_zero, is_decimal, decimal_number, size_of, start_and_size, line_named, line_of};
+ghost use Rattle.cmm_line.specs.Line.{IsSize, HasSize, has_leading_zero, is_decimal, decimal_number, size_of, start_and_size, line_named, line_of, begins_run, run_line, other_line};
 
 use crate::words::{Words, read_words};
 use std::alloc::{AllocError, Global};
@@ -18,6 +18,8 @@ pub const MAX_SIZE: u32 = 20_000;
 pub enum Line {
     /// `replay`: read a scenario, play its schedule and write the report.
     Replay,
+    /// `run`: read a scenario, run its processors as threads and write the report.
+    Run,
     /// `check`: read a scenario and a report, and write whether the report is legal.
     Check,
     /// `gen START SIZE`: write the scenario that is generated from a number.
@@ -91,6 +93,7 @@ fn line_named(words: &Words<'_>) -> Option<Line>
 {
     match (words.name, words.start, words.size) {
         ("replay", None, None) => Some(Line::Replay),
+        ("run", None, None) => Some(Line::Run),
         ("check", None, None) => Some(Line::Check),
         ("gen", Some(start), Some(size)) => {
             let (start, size) = start_and_size(start, size)?;
@@ -132,5 +135,23 @@ pub fn line_of(alloc: Global, words: &[String]) -> Result<Option<Line>, AllocErr
     match read_words(alloc, words)? {
         Some(words) => Ok(line_named(&words)),
         None => Ok(None),
+    }
+}
+
+fn is_run(word: &str) -> bool
+    ensures { result ≡ bytes_eq word.now (codes "run") }
+{
+    matches!(word, "run")
+}
+
+/// Whether the first word is `run`. Then the words are that line or none, and else they are another line or none.
+pub fn begins_run(words: &[String]) -> bool
+    ensures is { result ≡ begins_run (map string_bytes words.now) }
+    ensures run { result ≡ true → run_line (line_of (map string_bytes words.now)) ≡ line_of (map string_bytes words.now) }
+    ensures other { result ≡ false → other_line (line_of (map string_bytes words.now)) ≡ line_of (map string_bytes words.now) }
+{
+    match words {
+        [word, ..] => is_run(word.as_str()),
+        [] => false,
     }
 }

@@ -6,6 +6,7 @@ fn reads_the_words_of_the_line(rt: HostRuntime) -> Result<(), Fail> {
     let start = u64::MAX;
     let table: [(&[&str], Option<Line>); 23] = [
         (&["replay"], Some(Line::Replay)),
+        (&["run"], Some(Line::Run)),
         (&["check"], Some(Line::Check)),
         (&["gen", "7", "8"], Some(Line::Gen { start: 7, size: 8 })),
         (
@@ -26,8 +27,8 @@ fn reads_the_words_of_the_line(rt: HostRuntime) -> Result<(), Fail> {
         (&[], None),
         (&[""], None),
         (&["replay", "x"], None),
+        (&["run", "x"], None),
         (&["check", "x"], None),
-        (&["gen", "7"], None),
         (&["gen", "7", "7"], None),
         (&["gen", "7", "20001"], None),
         (&["gen", "07", "8"], None),
@@ -36,7 +37,6 @@ fn reads_the_words_of_the_line(rt: HostRuntime) -> Result<(), Fail> {
         (&["gen", "7", "8", "9"], None),
         (&["gen", "18446744073709551616", "8"], None),
         (&["-h"], None),
-        (&["-"], None),
         (&["help"], None),
         (&["--version"], None),
         (&["replay", "--"], None),

@@ -14,9 +14,9 @@ returns-in-Ok g c =
     let has = c.in-Ok.ensures in
     inl (record {
       report =
-          subst (λ w. Answers g.K.Sink.faults g.K.Sink.written c.args.out.now c.report.new.out (report_of false (run_of plan).0 (reports_of w)) Done c.report.result) has.state
-          (subst (λ list. Answers g.K.Sink.faults g.K.Sink.written c.args.out.now c.report.new.out (report_of false list (reports_of c.in-Ok.world.state)) Done c.report.result)
-          has.answers c.report.ensures);
+          subst (λ w. Answers g.K.Sink.faults g.K.Sink.written c.args.out.now c.report-status.new.out (report_of false (run_of plan).0 (reports_of w)) Done c.report-status.result) has.state
+          (subst (λ list. Answers g.K.Sink.faults g.K.Sink.written c.args.out.now c.report-status.new.out (report_of false list (reports_of c.in-Ok.world.state)) Done c.report-status.result)
+          has.answers c.report-status.ensures);
       run = has.legal;
       accepted = run_accepted plan c.in-Ok.world c.requires has (subst (All AnswerFits) c.answers.ensures c.read_answers.ensures) c.read_discards.ensures;
     })

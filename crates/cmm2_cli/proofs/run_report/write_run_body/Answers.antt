@@ -1,0 +1,13 @@
+use Rattle.std.proofs.Common.{true}
+use Rattle.cmm_io.specs.Laws.SinkBytesLaws.{Writes-then, Writes-stop}
+use Rattle.cmm_report.specs.Lines.{head_line}
+use Rattle.cmm_report.specs.Report.{guests_text}
+use Rattle.cmm2_cli.specs.Running.{machine_reports}
+use Rattle.cmm2_cli.proofs.run_report.write_run_body.Goals as goal
+
+pub returns-in_err-write_head : goal.returns-in_err-write_head
+returns-in_err-write_head g c =
+    Writes-stop g.K.Sink.faults g.K.Sink.written _ _ (head_line true) (guests_text 0 (machine_reports c.args.machine.now)) _ _ c.from_residual.ensures.0 c.in_err-write_head.ensures
+
+pub returns : goal.returns
+returns g c = Writes-then g.K.Sink.faults g.K.Sink.written _ _ _ (head_line true) (guests_text 0 (machine_reports c.args.machine.now)) _ _ c.in_ok-write_head.ensures c.write_machine_guests.ensures
