@@ -144,7 +144,8 @@ machine_after m after machine size over = record {
   ready = λ i lt. still_ready m.words m.pool (group_at m i) (slice_index_or after i no_group) (machine.ready i (omega (arith, lt, size))) (over i (omega (arith, lt, size))).ended;
   kernels = λ i lt. some_after (group_at m i).kernel (slice_index_or after i no_group).kernel (machine.kernels i lt) (over i (omega (arith, lt, machine.there))).ended.kernel;
   tables = machine.tables;
-  owned = λ i lt. machine.owned i lt ∙ ap (λ (w : WordsView). Some w) (sym (own_after (group_at m i).kernel (slice_index_or after i no_group).kernel (machine.kernels i lt) (over i (omega (arith, lt, machine.there))).ended.kernel));
+  owned = λ i lt. machine.owned i lt
+      ∙ ap (λ (w : WordsView). Some w) (sym (own_after (group_at m i).kernel (slice_index_or after i no_group).kernel (machine.kernels i lt) (over i (omega (arith, lt, machine.there))).ended.kernel));
   seated = machine.seated;
   region_is = machine.region_is;
 }

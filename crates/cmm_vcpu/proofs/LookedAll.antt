@@ -50,7 +50,8 @@ pub kernel_forgot : (k : KernelState) → IsKernel k → IsKernel (forgot k)
 kernel_forgot k kernel = record { fits = kernel.fits; bound = kernel.bound; looked_few = omega arith }
 
 pub looks_none : (k : KernelState) → IsKernel k → LooksSo k (forgot k) 0
-looks_none k kernel = record { kernel = kernel_forgot k kernel; guest = refl; words = refl; own = refl; pool = refl; count = refl; steps = sym (append-nil k.storage.seat.view.steps); counted = omega arith }
+looks_none k kernel =
+    record { kernel = kernel_forgot k kernel; guest = refl; words = refl; own = refl; pool = refl; count = refl; steps = sym (append-nil k.storage.seat.view.steps); counted = omega arith }
 
 pub looks_next : (k m : KernelState) (page : ℕ) (word : Fields) → page < k.guest.plan.pages → LooksSo k m page → known m page ≤ word.count → LooksSo k (kept_look m page word) (page + 1)
 looks_next k m page word below so counted = record {

@@ -58,7 +58,9 @@ among_in : (words : List ℕ) (n number : ℕ) → number < n → among (numbers
 among_in words zero number below = absurd (omega (arith, below))
 among_in words (suc n) number below = among_more words n number ∙ elim (cases_eq number n) [
   | inl here ↦ (rw (none_above words n number (omega (arith, here))) (ap (λ (k : ℕ). among (if_in (slice_index words k) k) number) (sym here) ∙ one_same (slice_index words number) number))
-  | inr other ↦ (rw (one_other (slice_index words n) n number (other_above n number (omega (arith, below, other)))) (or_false (among (numbers_in words n) number) ∙ among_in words n number (omega (arith, below, other))))
+  | inr other ↦
+      (rw (one_other (slice_index words n) n number (other_above n number (omega (arith, below, other))))
+      (or_false (among (numbers_in words n) number) ∙ among_in words n number (omega (arith, below, other))))
 ]
 
 range_more : (from n : ℕ) → range_with_len from (suc n) ≡ range_with_len from n ++ (from + n) ∷ []
@@ -75,7 +77,9 @@ passing test words zero same = refl
 passing test words (suc n) same =
     ap (λ l. length (filter test l)) (range_more 0 n) ∙ ap length (filter-append test (range_with_len 0 n) ((0 + n) ∷ []))
     ∙ length-append (filter test (range_with_len 0 n)) (filter test ((0 + n) ∷ []))
-    ∙ (rw (passing test words n (λ i lt. same i (omega (arith, lt)))) (ap (λ k. count_out words n + length (filter test (k ∷ []))) (zero_more n) ∙ ap (λ k. count_out words n + k) (kept_one (test n) (slice_index words n) n (same n (omega arith)))))
+    ∙ (rw (passing test words n (λ i lt. same i (omega (arith, lt))))
+    (ap (λ k. count_out words n + length (filter test (k ∷ []))) (zero_more n)
+    ∙ ap (λ k. count_out words n + k) (kept_one (test n) (slice_index words n) n (same n (omega arith)))))
   where
     zero_more : (n : ℕ) → 0 + n ≡ n
     zero_more n = omega arith

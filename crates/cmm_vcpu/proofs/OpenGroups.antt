@@ -79,7 +79,8 @@ guests_more plans words pool seats old rest groups count g so rest_is group = re
         (subst (λ (q : GroupState). IsGuestGroup (slice_index_or plans count no_plan) words pool count q) (sym (get_or-append_seam groups g [] no_group)) group))
     | inr other ↦
         let before : j < count = omega (arith, lt, other) in
-        subst (λ (q : GroupState). IsGuestGroup (slice_index_or plans j no_plan) words pool j q) (sym (get_or_append_left groups (g ∷ []) no_group j (omega (arith, before, so.size)))) (so.each j before)
+        subst (λ (q : GroupState). IsGuestGroup (slice_index_or plans j no_plan) words pool j q)
+        (sym (get_or_append_left groups (g ∷ []) no_group j (omega (arith, before, so.size)))) (so.each j before)
   ];
 }
 
@@ -118,7 +119,8 @@ seat_at plans pool words guests hosts number guest tables below is = record {
     pages : guest.words.pages ≡ (slice_index_or plans number no_plan).pages
     pages =
         ap (λ (s : Seated). s.words.pages) at
-        ∙ ap (λ (w : WordsView). w.pages) (sym (get_or-map (λ (s : Seated). s.words) guests number guest guest.words within) ∙ ap (λ (l : List WordsView). slice_index_or l number guest.words) tables.guests_are)
+        ∙ ap (λ (w : WordsView). w.pages) (sym (get_or-map (λ (s : Seated). s.words) guests number guest guest.words within)
+        ∙ ap (λ (l : List WordsView). slice_index_or l number guest.words) tables.guests_are)
         ∙ sym (get_or-map (λ (w : WordsView). w.pages) words number guest.words 0 placed)
         ∙ ap (λ (l : List ℕ). slice_index_or l number 0) tables.pages
         ∙ get_or-map (λ (p : GuestPlan). p.pages) plans number no_plan 0 below

@@ -25,4 +25,6 @@ tables_more plans i d pool words guests hosts w g h below tables pages house of_
 pub tables_same : (plans : List GuestPlan) (pool : PoolId) (ws words : List WordsView) (gs guests hs hosts : List Seated) → ws ≡ words → gs ≡ guests → hs ≡ hosts
     → AreTables plans pool words guests hosts → AreTables plans pool ws gs hs
 tables_same plans pool ws words gs guests hs hosts same_words same_guests same_hosts tables =
-    subst (λ q. AreTables plans pool q gs hs) (sym same_words) (subst (λ q. AreTables plans pool words q hs) (sym same_guests) (subst (λ q. AreTables plans pool words guests q) (sym same_hosts) tables))
+    subst (λ q. AreTables plans pool q gs hs) (sym same_words)
+    (subst (λ q. AreTables plans pool words q hs) (sym same_guests)
+    (subst (λ q. AreTables plans pool words guests q) (sym same_hosts) tables))

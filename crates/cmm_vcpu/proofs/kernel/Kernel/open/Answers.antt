@@ -6,7 +6,9 @@ use Rattle.cmm_vcpu.proofs.OpeningKernel.{opening_fits}
 use Rattle.cmm_vcpu.proofs.kernel.Kernel.open.Goals as goal
 
 opening : (c : goal.In_ok-looked)
-    → ◌≡◌ {A = KernelState} (record { guest = c.in_ok-guest.guest; disk = c.in_ok-disk.disk; storage = c.args.storage; looked = c.in_ok-looked.looked.items }) (opening_kernel c.args.plan.now c.args.storage)
+    → ◌≡◌ {A = KernelState}
+    (record { guest = c.in_ok-guest.guest; disk = c.in_ok-disk.disk; storage = c.args.storage; looked = c.in_ok-looked.looked.items })
+    (opening_kernel c.args.plan.now c.args.storage)
 opening c = λ i. record { guest = c.in_ok-guest.ensures.opening i; disk = c.in_ok-disk.ensures i; storage = c.args.storage; looked = c.in_ok-looked.ensures.items i }
 
 pub invariant_of-result : goal.invariant_of-result
