@@ -1,4 +1,4 @@
-use Rattle.std.proofs.Common.{◌≡◌, ◌∙◌, ℕ, ◌+◌, ◌-◌, ◌*◌, ◌<◌, ◌≤◌, List, [], ◌∷◌, ◌++◌, length, drop, replicate, map, refl, sym, ap, subst, arith, All}
+use Rattle.std.proofs.Common.{◌≡◌, ◌∙◌, ℕ, ◌+◌, ◌-◌, ◌*◌, ◌<◌, ◌≤◌, List, [], ◌∷◌, ◌++◌, length, drop, replicate, map, sym, ap, subst, arith, All}
 use Rattle.std.proofs.Math.Nat.{mul-le-mul_left}
 use Rattle.std.specs.List.{flat_map, range_with_len, sum_by}
 use Rattle.std.proofs.lemmas.List.{length-append, length-take, length-drop, length-replicate, append_assoc}
@@ -11,10 +11,6 @@ use Rattle.cmm_types.specs.declared.plan.FilePlan.{FilePlan}
 use Rattle.cmm_types.specs.InRange.{FileInRange, file_pages_of}
 use Rattle.cmm_io.specs.DiskOf.{page_at, file_bytes, file_blocks, disk_of}
 use Rattle.cmm_types.specs.Bytes.{zero_page}
-
-pub zero_blocks : (n : ℕ) → replicate n (replicate PAGE 0) ≡ replicate n zero_page
-unfolding zero_page
-zero_blocks n = refl
 
 pub length-zeros : length zero_page ≡ PAGE
 unfolding zero_page

@@ -2,15 +2,15 @@ ghost use Rattle.std.specs.Prelude.{◌≡◌, ◌+◌, ◌++◌, ◌<◌, ◌�
 ghost use Rattle.cmm_types.specs.declared.page.TheConstants.{PAGE};
 ghost use Rattle.cmm_types.specs.InRange.{FileInRange, GuestInRange, file_pages_of};
 ghost use Rattle.cmm_io.specs.DiskView.{DiskFollows};
-ghost use Rattle.cmm_io.specs.DiskOf.{file_blocks};
+ghost use Rattle.cmm_io.specs.DiskOf.{AreZeros, disk_of, file_blocks};
 ghost use Rattle.cmm_io.specs.DiskState.{DiskStep, disk_view, opened, opening_disk};
 ghost use Rattle.cmm_io.specs.Padded.{padded};
 
 use crate::disk::Disk;
 use crate::failed::Failed;
 use crate::failures::PlannedFailures;
-use cmm_types::{FilePlan, GuestPlan, PAGE};
-use lazy_list::LazyList;
+use cmm_types::{FilePlan, GuestPlan, PAGE, file_pages};
+use page_pieces::{Piece, pieces};
 use std::alloc::{AllocError, Global};
 use std::marker::Model;
 
@@ -24,24 +24,65 @@ fn filled(head: &[u8]) -> [u8; PAGE]
     block
 }
 
-// Puts the pages of a file behind the blocks.
-fn add_file(blocks: &mut Vec<[u8; PAGE]>, file: &FilePlan) -> Result<(), AllocError>
-    requires { FileInRange file.now }
-    ensures { OnOk result (blocks.new.items ≡ blocks.old.items ++ file_blocks file.now) }
+// One of the pieces that are left, with these bytes at its beginning. One of zeros isn't written.
+fn take_block(spare: &mut Vec<Piece>, head: &[u8]) -> Piece
+    requires some { 0 < length spare.old.items }
+    requires zeros { AreZeros spare.old.items }
+    requires head { length head.now ≤ PAGE }
+    ensures block { result ≡ padded head.now }
+    ensures zeros { AreZeros spare.new.items }
+    ensures left { length spare.new.items + 1 ≡ length spare.old.items }
+{
+    let mut block = spare.pop().unwrap();
+    if head.len() > 0 {
+        block.set(&filled(head));
+    }
+    block
+}
+
+// Puts the pages of a file behind the blocks, which are taken of the pieces that are left.
+fn add_file(
+    blocks: &mut Vec<Piece>,
+    spare: &mut Vec<Piece>,
+    file: &FilePlan,
+) -> Result<(), AllocError>
+    requires range { FileInRange file.now }
+    requires zeros { AreZeros spare.old.items }
+    requires room { file.now.pages ≤ length spare.old.items }
+    ensures blocks { OnOk result (blocks.new.items ≡ blocks.old.items ++ file_blocks file.now) }
+    ensures zeros { OnOk result (AreZeros spare.new.items) }
+    ensures left { OnOk result (length spare.new.items + file.now.pages ≡ length spare.old.items) }
 {
     let head = file.head.as_slice();
     for index in 0..file.pages {
         let start = head.len().min(PAGE * index as usize);
         let end = head.len().min(start + PAGE);
-        blocks.push(filled(&head[start..end]))?;
+        blocks.push(take_block(spare, &head[start..end]))?;
     }
     Ok(())
 }
 
-/// A disk in memory. Reads and writes are numbered together, and a call fails exactly where its number is planned.
+// The pages of the files in order, and behind them blocks of zeros.
+fn first_blocks(alloc: Global, files: &[FilePlan], swap: u32) -> Result<Vec<Piece>, AllocError>
+    requires ranges { All FileInRange files.now }
+    requires count { file_pages_of files.now + swap < 2 ^ 32 }
+    ensures { IfOk result (λ blocks. blocks.items ≡ disk_of files.now swap) }
+{
+    let count = file_pages(files) + swap;
+    let mut spare = pieces(alloc, count)?;
+    let mut blocks = Vec::with_capacity(alloc, count as usize)?;
+    for file in files {
+        add_file(&mut blocks, &mut spare, file)?;
+    }
+    blocks.append(&mut spare)?;
+    Ok(blocks)
+}
+
+/// A disk in memory. Reads and writes are numbered together, and a call fails exactly where its number is planned. A
+/// block of zeros costs no memory before it is written.
 #[derive(Drop)]
 pub struct MemDisk {
-    blocks: LazyList<[u8; PAGE]>,
+    blocks: Vec<Piece>,
     failures: PlannedFailures,
 }
 
@@ -52,9 +93,9 @@ impl Model for MemDisk {
 
     ghost Value = { DiskState };
 
-    ghost view = { λ d. record { blocks = d.blocks; failures = d.failures } };
+    ghost view = { λ d. record { blocks = d.blocks.items; failures = d.failures } };
 
-    ghost invariant = { λ d. (length d.blocks < 2 ^ 32) × All (λ bytes. length bytes ≡ PAGE) d.blocks };
+    ghost invariant = { λ d. (length d.blocks.items < 2 ^ 32) × All (λ bytes. length bytes ≡ PAGE) d.blocks.items };
 }
 
 impl MemDisk {
@@ -70,12 +111,9 @@ impl MemDisk {
         requires count { file_pages_of files.now + swap < 2 ^ 32 }
         ensures { IfOk result (λ disk. disk ≡ opened files.now swap fails.now) }
     {
-        let mut blocks = Vec::new(alloc);
-        for file in files {
-            add_file(&mut blocks, file)?;
-        }
+        let blocks = first_blocks(alloc, files, swap)?;
         Ok(MemDisk {
-            blocks: LazyList::behind(blocks, swap as usize, [0; PAGE])?,
+            blocks,
             failures: PlannedFailures::open(alloc, fails)?,
         })
     }
@@ -99,7 +137,7 @@ impl MemDisk {
         requires { block < length self.now.blocks }
         ensures { result.now ≡ slice_index_or self.now.blocks block [] }
     {
-        self.blocks.get(block as usize).as_slice()
+        self.blocks[block as usize].bytes()
     }
 }
 
@@ -122,7 +160,7 @@ impl Disk for MemDisk {
         if self.failures.next() {
             return Err(Failed);
         }
-        into.copy_from_slice(self.blocks.get(block as usize));
+        into.copy_from_slice(self.blocks[block as usize].bytes());
         Ok(())
     }
 
@@ -130,7 +168,7 @@ impl Disk for MemDisk {
         if self.failures.next() {
             return Err(Failed);
         }
-        self.blocks.set(block as usize, filled(from));
+        self.blocks[block as usize].set(from);
         Ok(())
     }
 }

@@ -66,9 +66,10 @@ impl World {
     {
         let guests = open_guests(alloc, plan.guests.as_slice())?;
         let disks = open_disks(alloc, plan.guests.as_slice())?;
-        let host = open_host(alloc, plan)?;
         let events = plan.schedule.len();
         let answers = Vec::with_capacity(alloc, events)?;
+        // Last, so that nothing is refused once there are frames.
+        let host = open_host(alloc, plan)?;
         Ok(World {
             guests,
             disks,

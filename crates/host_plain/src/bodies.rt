@@ -99,8 +99,9 @@ impl Bodies {
         ensures bodies { IfOk result (λ bodies. bodies ≡ opening_bodies blocks.items frames) }
         ensures whole { IfOk result (λ bodies. All IsWholeBody bodies.bodies) }
     {
-        let (region, free) = Region::new(alloc, frames)?;
         let pages = pages_of(alloc, blocks)?;
+        // Last, so that nothing is refused once there are frames.
+        let (region, free) = Region::new(alloc, frames)?;
         Ok(Bodies {
             pages,
             free,

@@ -42,19 +42,6 @@ impl<T: Copy> LazyList<T> {
         })
     }
 
-    /// These values, and `more` places with the blank one behind them.
-    pub fn behind(mut values: Vec<T>, more: usize, blank: T) -> Result<LazyList<T>, AllocError>
-        ensures { IfOk result (λ list. list ≡ values.items ++ replicate more blank) }
-    {
-        values.reserve(more)?;
-        let len = values.len() + more;
-        Ok(LazyList {
-            written: values,
-            len,
-            blank,
-        })
-    }
-
     pub fn len(&self) -> usize
         ensures { result ≡ length self.now }
     {
@@ -66,22 +53,9 @@ impl<T: Copy> LazyList<T> {
         ensures { result ≡ slice_index_or self.now place result }
     {
         if place < self.written.len() {
-            self.written[place]
-        } else {
-            self.blank
+            return self.written[place];
         }
-    }
-
-    /// The value at a place, where it lies.
-    pub fn get(&self, place: usize) -> &T
-        requires { place < length self.now }
-        ensures { result.now ≡ slice_index_or self.now place result.now }
-    {
-        if place < self.written.len() {
-            &self.written[place]
-        } else {
-            &self.blank
-        }
+        self.blank
     }
 
     pub fn set(&mut self, place: usize, value: T)
@@ -105,6 +79,6 @@ fn put_behind<T: Copy>(list: &mut Vec<T>, place: usize, blank: T, value: T)
 {
     match list.resize(place, blank) {
         Ok(()) => list.push_reserved(value),
-        Err(_) => {}
+        Err(_) => unreachable!(),
     }
 }

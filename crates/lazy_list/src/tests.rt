@@ -12,24 +12,8 @@ fn a_place_has_what_was_set_last_and_the_others_what_they_began_with(
     for (place, expected) in [7, 2, 7, 4, 7, 7].iter().enumerate() {
         if place < list.len() {
             assert_eq!(rt; list.at(place), *expected);
-            assert_eq!(rt; list.get(place), expected);
         } else {
             assert!(rt; false, "six places");
-        }
-    }
-    Ok(())
-}
-
-#[test]
-fn the_places_behind_the_values_are_blank(rt: HostRuntime) -> Result<(), Fail> {
-    let values = vec![in rt.alloc(); 9; 2]?;
-    let mut list = LazyList::behind(values, 2, 5)?;
-    list.set(2, 8);
-    for (place, expected) in [9, 9, 8, 5].iter().enumerate() {
-        if place < list.len() {
-            assert_eq!(rt; list.at(place), *expected);
-        } else {
-            assert!(rt; false, "four places");
         }
     }
     Ok(())

@@ -6,17 +6,17 @@ use Rattle.cmm_world.specs.WorldFit.{IsWorld}
 use Rattle.cmm_world.proofs.OpeningWorld.{opening_fits, opening_parts}
 use Rattle.cmm_world.proofs.world.World.open.Goals as goal
 
-abbrev opened : goal.In_ok-answers → WorldState
+abbrev opened : goal.In_ok-host → WorldState
 opened c = record { guests = c.in_ok-guests.guests.items; disks = c.in_ok-disks.disks.items; host = c.in_ok-host.host }
 
-state : (c : goal.In_ok-answers) → opened c ≡ opening_world c.args.plan.now
+state : (c : goal.In_ok-host) → opened c ≡ opening_world c.args.plan.now
 state c =
     opening_parts c.args.plan.now c.in_ok-guests.guests.items c.in_ok-disks.disks.items c.in_ok-host.host
     (c.in_ok-guests.ensures ∙ ap (map opening_guest) c.as_slice.ensures)
     (c.in_ok-disks.ensures ∙ ap (map opening_disk) c.as_slice-2.ensures)
     c.in_ok-host.ensures
 
-world : (c : goal.In_ok-answers) → IsWorld (opened c)
+world : (c : goal.In_ok-host) → IsWorld (opened c)
 world c = subst IsWorld (sym (state c)) (opening_fits c.args.plan.now c.requires)
 
 pub invariant_of-result : goal.invariant_of-result
