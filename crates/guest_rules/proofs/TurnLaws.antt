@@ -17,25 +17,23 @@ use Rattle.guest_rules.proofs.Bound.Bound.{alone_causes}
 use Rattle.guest_rules.proofs.Cases.Inversion.{turn_case}
 use Rattle.guest_rules.proofs.Fit.FitTurn.{fit_turn}
 
--- every turn keeps fit
-pub Fit-turn : (g : GuestState) (cpu : ℕ) (v : StorageView) (d : DiskView) (h : GuestState) (t : Turn) (w : StorageView) (e : DiskView)
-    → Fit g v d → cpu < length g.processors → Seen {A = GuestState × Turn} (turn g cpu) v d (h, t) w e → Fit h w e
-Fit-turn g cpu v d h t w e f below run = fit_turn g cpu v d h t w e f (turn_case (flat_of g.plan g.journal) g v w d e cpu h t f below run)
+-- g and h the guest before and after, cpu the processor, v and w its storage before and after, d and e its disk before and after, t the turn
+module _ (g : GuestState) (cpu : ℕ) (v : StorageView) (d : DiskView) (h : GuestState) (t : Turn) (w : StorageView) (e : DiskView) where
+  -- every turn keeps fit
+  pub Fit-turn : Fit g v d → cpu < length g.processors → Seen {A = GuestState × Turn} (turn g cpu) v d (h, t) w e → Fit h w e
+  Fit-turn f below run = fit_turn g cpu v d h t w e f (turn_case (flat_of g.plan g.journal) g v w d e cpu h t f below run)
 
--- every turn answers for a cause
-pub Causes-turn : (g : GuestState) (cpu : ℕ) (v : StorageView) (d : DiskView) (h : GuestState) (t : Turn) (w : StorageView) (e : DiskView)
-    → Fit g v d → cpu < length g.processors → Seen {A = GuestState × Turn} (turn g cpu) v d (h, t) w e → TurnCause g v d cpu t h w e
-Causes-turn g cpu v d h t w e f below run = turn_causes g v w d e cpu h t f below run (turn_case (flat_of g.plan g.journal) g v w d e cpu h t f below run)
+  -- every turn answers for a cause
+  pub Causes-turn : Fit g v d → cpu < length g.processors → Seen {A = GuestState × Turn} (turn g cpu) v d (h, t) w e → TurnCause g v d cpu t h w e
+  Causes-turn f below run = turn_causes g v w d e cpu h t f below run (turn_case (flat_of g.plan g.journal) g v w d e cpu h t f below run)
 
--- no turn discards a page that may not be discarded
-pub Discards-turn : (g : GuestState) (cpu : ℕ) (v : StorageView) (d : DiskView) (h : GuestState) (t : Turn) (w : StorageView) (e : DiskView)
-    → Fit g v d → cpu < length g.processors → Seen {A = GuestState × Turn} (turn g cpu) v d (h, t) w e → NoWrongDiscard v w
-Discards-turn g cpu v d h t w e f below run = (turn_summary g v w d e cpu h t (turn_case (flat_of g.plan g.journal) g v w d e cpu h t f below run)).discards
+  -- no turn discards a page that may not be discarded
+  pub Discards-turn : Fit g v d → cpu < length g.processors → Seen {A = GuestState × Turn} (turn g cpu) v d (h, t) w e → NoWrongDiscard v w
+  Discards-turn f below run = (turn_summary g v w d e cpu h t (turn_case (flat_of g.plan g.journal) g v w d e cpu h t f below run)).discards
 
--- no turn changes the plan
-pub plan-turn : (g : GuestState) (cpu : ℕ) (v : StorageView) (d : DiskView) (h : GuestState) (t : Turn) (w : StorageView) (e : DiskView)
-    → Fit g v d → cpu < length g.processors → Seen {A = GuestState × Turn} (turn g cpu) v d (h, t) w e → h.plan ≡ g.plan
-plan-turn g cpu v d h t w e f below run = (turn_summary g v w d e cpu h t (turn_case (flat_of g.plan g.journal) g v w d e cpu h t f below run)).plan
+  -- no turn changes the plan
+  pub plan-turn : Fit g v d → cpu < length g.processors → Seen {A = GuestState × Turn} (turn g cpu) v d (h, t) w e → h.plan ≡ g.plan
+  plan-turn f below run = (turn_summary g v w d e cpu h t (turn_case (flat_of g.plan g.journal) g v w d e cpu h t f below run)).plan
 
 -- a processor that goes on alone over a storage that never misses stops within the turns that its command may take, and for a cause
 pub Causes-alone : (g : GuestState) (cpu : ℕ) (v : StorageView) (d : DiskView) (h : GuestState) (a : Alone) (w : StorageView) (e : DiskView)

@@ -130,37 +130,39 @@ paged_turns pages h = omega (arith, h)
 twelve : 12 ≤ most_turns
 twelve = omega (arith, paged_turns 0 (omega arith))
 
--- no mapping has more pages than a file may have
-mapping_pages-most : (g : GuestState) (v : StorageView) (d : DiskView) (slot : ℕ) → Fit g v d → mapping_pages (slot_at g.parts.maps slot) ≤ MAX_FILE_PAGES
-mapping_pages-most g v d slot f = of (slot_at g.parts.maps slot) refl
-  where
-    of : (o : Option Slot) → slot_at g.parts.maps slot ≡ o → mapping_pages o ≤ MAX_FILE_PAGES
-    of None e = omega arith
-    of (Some mapping) e = omega (arith, (f.slots.shown slot mapping e).0)
+-- g the guest, v its storage, d its disk
+module _ (g : GuestState) (v : StorageView) (d : DiskView) where
+  -- no mapping has more pages than a file may have
+  mapping_pages-most : (slot : ℕ) → Fit g v d → mapping_pages (slot_at g.parts.maps slot) ≤ MAX_FILE_PAGES
+  mapping_pages-most slot f = of (slot_at g.parts.maps slot) refl
+    where
+      of : (o : Option Slot) → slot_at g.parts.maps slot ≡ o → mapping_pages o ≤ MAX_FILE_PAGES
+      of None e = omega arith
+      of (Some mapping) e = omega (arith, (f.slots.shown slot mapping e).0)
 
-found_pages-most : (g : GuestState) (v : StorageView) (d : DiskView) (found : Option ℕ) → Fit g v d → found_pages g.parts.maps found ≤ MAX_FILE_PAGES
-found_pages-most g v d None f = omega arith
-found_pages-most g v d (Some slot) f = mapping_pages-most g v d slot f
+  found_pages-most : (found : Option ℕ) → Fit g v d → found_pages g.parts.maps found ≤ MAX_FILE_PAGES
+  found_pages-most None f = omega arith
+  found_pages-most (Some slot) f = mapping_pages-most slot f
 
-pages_to_tear-most : (g : GuestState) (v : StorageView) (d : DiskView) (cpu number : ℕ) (phase : Phase) → Fit g v d → pages_to_tear g cpu number phase ≤ MAX_FILE_PAGES
-pages_to_tear-most g v d cpu number Start f = found_pages-most g v d (find_slot g.parts.maps (process_of g.plan cpu) number) f
-pages_to_tear-most g v d cpu number (Teardown slot index) f = mapping_pages-most g v d slot f
-pages_to_tear-most g v d cpu number (Fill page) f = omega arith
-pages_to_tear-most g v d cpu number (AtRoom page) f = omega arith
-pages_to_tear-most g v d cpu number (AtSync index) f = omega arith
-pages_to_tear-most g v d cpu number (SyncWrite index page) f = omega arith
+  pages_to_tear-most : (cpu number : ℕ) (phase : Phase) → Fit g v d → pages_to_tear g cpu number phase ≤ MAX_FILE_PAGES
+  pages_to_tear-most cpu number Start f = found_pages-most (find_slot g.parts.maps (process_of g.plan cpu) number) f
+  pages_to_tear-most cpu number (Teardown slot index) f = mapping_pages-most slot f
+  pages_to_tear-most cpu number (Fill page) f = omega arith
+  pages_to_tear-most cpu number (AtRoom page) f = omega arith
+  pages_to_tear-most cpu number (AtSync index) f = omega arith
+  pages_to_tear-most cpu number (SyncWrite index page) f = omega arith
 
-turns_of-most : (g : GuestState) (v : StorageView) (d : DiskView) (cpu : ℕ) (op : Op) → Fit g v d → turns_of g cpu op ≤ most_turns
-turns_of-most g v d cpu (Sync file) f = paged_turns (file_pages g.plan.files file) (file_pages-most g.plan.files file f.sizes.range.files.each)
-turns_of-most g v d cpu (Unmap number) f = paged_turns (pages_to_tear g cpu number (processor_at g cpu).phase) (pages_to_tear-most g v d cpu number (processor_at g cpu).phase f)
-turns_of-most g v d cpu (Read file off len) f = twelve
-turns_of-most g v d cpu (Write file off bytes) f = twelve
-turns_of-most g v d cpu (MapFile number file first count writable) f = twelve
-turns_of-most g v d cpu (MapAnon number count) f = twelve
-turns_of-most g v d cpu (Load number off len) f = twelve
-turns_of-most g v d cpu (Store number off bytes) f = twelve
-turns_of-most g v d cpu (Pin number index) f = twelve
-turns_of-most g v d cpu (Unpin number index) f = twelve
+  turns_of-most : (cpu : ℕ) (op : Op) → Fit g v d → turns_of g cpu op ≤ most_turns
+  turns_of-most cpu (Sync file) f = paged_turns (file_pages g.plan.files file) (file_pages-most g.plan.files file f.sizes.range.files.each)
+  turns_of-most cpu (Unmap number) f = paged_turns (pages_to_tear g cpu number (processor_at g cpu).phase) (pages_to_tear-most cpu number (processor_at g cpu).phase f)
+  turns_of-most cpu (Read file off len) f = twelve
+  turns_of-most cpu (Write file off bytes) f = twelve
+  turns_of-most cpu (MapFile number file first count writable) f = twelve
+  turns_of-most cpu (MapAnon number count) f = twelve
+  turns_of-most cpu (Load number off len) f = twelve
+  turns_of-most cpu (Store number off bytes) f = twelve
+  turns_of-most cpu (Pin number index) f = twelve
+  turns_of-most cpu (Unpin number index) f = twelve
 
 -- a processor with so many turns left stops within them
 stops_within : KeepsFit → (fuel left turns : ℕ) (g i : GuestState) (v w : StorageView) (d e : DiskView) (cpu : ℕ) (a : Alone) → Fit g v d → v.quiet ≡ true → cpu < length g.processors

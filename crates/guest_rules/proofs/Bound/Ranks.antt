@@ -52,134 +52,134 @@ pub record IsServed (g : GuestState) (cpu : ℕ) (op : Op) : Type 0 where
   pub at : entry_at g.parts.maps slot (off / PAGE) ≡ Some pte
   pub allows : writes ≡ true → pte.writable ≡ true
 
--- the command's page is there, and isn't lost
-pub record HasItsPage (g : GuestState) (v : StorageView) (cpu : ℕ) (op : Op) (lost : Bool) : Type 0 where
-  pub start : (processor_at g cpu).phase ≡ Start
-  pub tag : Tag
-  pub page : ℕ
-  pub wants : Wants g cpu op tag
-  pub found : page_of g.parts.cache tag ≡ Some page
-  pub lost_is : is_lost (v.values page).contents ≡ lost
+-- g the guest, v its storage, cpu the processor
+module _ (g : GuestState) (v : StorageView) (cpu : ℕ) where
+  -- the command's page is there, and isn't lost
+  pub record HasItsPage (op : Op) (lost : Bool) : Type 0 where
+    pub start : (processor_at g cpu).phase ≡ Start
+    pub tag : Tag
+    pub page : ℕ
+    pub wants : Wants g cpu op tag
+    pub found : page_of g.parts.cache tag ≡ Some page
+    pub lost_is : is_lost (v.values page).contents ≡ lost
 
--- the command needs a page, and none is free; the first page that can go is neither dirty nor changed, so that the next turn frees it
-pub record ClearsNext (g : GuestState) (v : StorageView) (cpu : ℕ) (op : Op) (page : ℕ) : Type 0 where
-  pub needs : NeedsFreePage g cpu op
-  pub full : g.parts.pages.free ≡ []
-  pub first : first_to_go g.parts ≡ Some page
-  pub clean : (info_at g.parts.pages page).dirty ≡ false
-  pub unchanged : (v.values page).changed ≡ false
+  -- the command needs a page, and none is free; the first page that can go is neither dirty nor changed, so that the next turn frees it
+  pub record ClearsNext (op : Op) (page : ℕ) : Type 0 where
+    pub needs : NeedsFreePage g cpu op
+    pub full : g.parts.pages.free ≡ []
+    pub first : first_to_go g.parts ≡ Some page
+    pub clean : (info_at g.parts.pages page).dirty ≡ false
+    pub unchanged : (v.values page).changed ≡ false
 
--- the processor writes a page back to make room for its command. Once that is done the page is the first that can go, and clean
-pub record PagesOutOwn (g : GuestState) (v : StorageView) (cpu : ℕ) (op : Op) (page : ℕ) : Type 0 where
-  pub phase : (processor_at g cpu).phase ≡ AtRoom page
-  pub tag : Tag
-  pub wants : Wants g cpu op tag
-  pub none : page_of g.parts.cache tag ≡ None
-  pub full : g.parts.pages.free ≡ []
-  pub next : first_to_go (cleaned g.parts page) ≡ Some page
-  pub unchanged : (v.values page).changed ≡ false
+  -- the processor writes a page back to make room for its command. Once that is done the page is the first that can go, and clean
+  pub record PagesOutOwn (op : Op) (page : ℕ) : Type 0 where
+    pub phase : (processor_at g cpu).phase ≡ AtRoom page
+    pub tag : Tag
+    pub wants : Wants g cpu op tag
+    pub none : page_of g.parts.cache tag ≡ None
+    pub full : g.parts.pages.free ≡ []
+    pub next : first_to_go (cleaned g.parts page) ≡ Some page
+    pub unchanged : (v.values page).changed ≡ false
 
--- at most so many turns are left of this command. Where its page is there it is one less for a read. That a page is filled for another
--- tag than the command's doesn't come, nor that one is written back that isn't the next to go, but both cost nothing here. A sync looks at
--- each page of its file from its index on, and may write it back; an unmap is answered, and takes off each page of its mapping from its index on
-pub data OpRank (g : GuestState) (v : StorageView) (cpu : ℕ) (op : Op) (left : ℕ) : Type 0 where
-  no_tag : (processor_at g cpu).phase ≡ Start → IsShort op → wanted_tag g.parts (process_of g.plan cpu) op ≡ None → 1 ≤ left → OpRank g v cpu op left
-  served : HasItsPage g v cpu op false → IsServed g cpu op → 1 ≤ left → OpRank g v cpu op left
-  has_page : HasItsPage g v cpu op false → 2 ≤ left → OpRank g v cpu op left
-  fills_own : (page : ℕ) (tag : Tag) → (processor_at g cpu).phase ≡ Fill page → Wants g cpu op tag → (info_at g.parts.pages page).tag ≡ Some tag → 3 ≤ left → OpRank g v cpu op left
-  has_none : (tag : Tag) → (processor_at g cpu).phase ≡ Start → Wants g cpu op tag → page_of g.parts.cache tag ≡ None → g.parts.pages.free ≢ [] → 4 ≤ left → OpRank g v cpu op left
-  has_lost : HasItsPage g v cpu op true → 5 ≤ left → OpRank g v cpu op left
-  room_clean : (page : ℕ) → ClearsNext g v cpu op page → 5 ≤ left → OpRank g v cpu op left
-  pages_out_own : (page : ℕ) → PagesOutOwn g v cpu op page → 6 ≤ left → OpRank g v cpu op left
-  needs_room : NeedsFreePage g cpu op → g.parts.pages.free ≡ [] → 7 ≤ left → OpRank g v cpu op left
-  fills : (page : ℕ) → (processor_at g cpu).phase ≡ Fill page → 8 ≤ left → OpRank g v cpu op left
-  pages_out : (page : ℕ) → (processor_at g cpu).phase ≡ AtRoom page → 8 ≤ left → OpRank g v cpu op left
-  at_look : (file index : ℕ) → op ≡ Sync file → LooksAt g cpu index → 2 * file_pages g.plan.files file ≤ left + 2 * index → 1 ≤ left → OpRank g v cpu op left
-  at_write : (file index page : ℕ) → op ≡ Sync file → (processor_at g cpu).phase ≡ SyncWrite index page → 2 * file_pages g.plan.files file ≤ left + 2 * index + 1 → 1 ≤ left → OpRank g v cpu op left
-  unmaps : (number : ℕ) → op ≡ Unmap number → (processor_at g cpu).phase ≡ Start → pages_to_tear g cpu number Start + 1 ≤ left → 2 ≤ left → OpRank g v cpu op left
-  tears : (number slot index : ℕ) → op ≡ Unmap number → (processor_at g cpu).phase ≡ Teardown slot index → mapping_pages (slot_at g.parts.maps slot) ≤ left + index → 1 ≤ left → OpRank g v cpu op left
+  -- at most so many turns are left of this command. Where its page is there it is one less for a read. That a page is filled for another
+  -- tag than the command's doesn't come, nor that one is written back that isn't the next to go, but both cost nothing here. A sync looks at
+  -- each page of its file from its index on, and may write it back; an unmap is answered, and takes off each page of its mapping from its index on
+  pub data OpRank (op : Op) (left : ℕ) : Type 0 where
+    no_tag : (processor_at g cpu).phase ≡ Start → IsShort op → wanted_tag g.parts (process_of g.plan cpu) op ≡ None → 1 ≤ left → OpRank op left
+    served : HasItsPage op false → IsServed g cpu op → 1 ≤ left → OpRank op left
+    has_page : HasItsPage op false → 2 ≤ left → OpRank op left
+    fills_own : (page : ℕ) (tag : Tag) → (processor_at g cpu).phase ≡ Fill page → Wants g cpu op tag → (info_at g.parts.pages page).tag ≡ Some tag → 3 ≤ left → OpRank op left
+    has_none : (tag : Tag) → (processor_at g cpu).phase ≡ Start → Wants g cpu op tag → page_of g.parts.cache tag ≡ None → g.parts.pages.free ≢ [] → 4 ≤ left → OpRank op left
+    has_lost : HasItsPage op true → 5 ≤ left → OpRank op left
+    room_clean : (page : ℕ) → ClearsNext op page → 5 ≤ left → OpRank op left
+    pages_out_own : (page : ℕ) → PagesOutOwn op page → 6 ≤ left → OpRank op left
+    needs_room : NeedsFreePage g cpu op → g.parts.pages.free ≡ [] → 7 ≤ left → OpRank op left
+    fills : (page : ℕ) → (processor_at g cpu).phase ≡ Fill page → 8 ≤ left → OpRank op left
+    pages_out : (page : ℕ) → (processor_at g cpu).phase ≡ AtRoom page → 8 ≤ left → OpRank op left
+    at_look : (file index : ℕ) → op ≡ Sync file → LooksAt g cpu index → 2 * file_pages g.plan.files file ≤ left + 2 * index → 1 ≤ left → OpRank op left
+    at_write : (file index page : ℕ) → op ≡ Sync file → (processor_at g cpu).phase ≡ SyncWrite index page → 2 * file_pages g.plan.files file ≤ left + 2 * index + 1 → 1 ≤ left → OpRank op left
+    unmaps : (number : ℕ) → op ≡ Unmap number → (processor_at g cpu).phase ≡ Start → pages_to_tear g cpu number Start + 1 ≤ left → 2 ≤ left → OpRank op left
+    tears : (number slot index : ℕ) → op ≡ Unmap number → (processor_at g cpu).phase ≡ Teardown slot index → mapping_pages (slot_at g.parts.maps slot) ≤ left + index → 1 ≤ left → OpRank op left
 
-pub data Rank (g : GuestState) (v : StorageView) (cpu : ℕ) (left : ℕ) : Type 0 where
-  no_command : command_of g.plan cpu (processor_at g cpu).place ≡ None → 1 ≤ left → Rank g v cpu left
-  has_command : (op : Op) → command_of g.plan cpu (processor_at g cpu).place ≡ Some op → OpRank g v cpu op left → Rank g v cpu left
+  pub data Rank (left : ℕ) : Type 0 where
+    no_command : command_of g.plan cpu (processor_at g cpu).place ≡ None → 1 ≤ left → Rank left
+    has_command : (op : Op) → command_of g.plan cpu (processor_at g cpu).place ≡ Some op → OpRank op left → Rank left
 
-op_rank_some : (g : GuestState) (v : StorageView) (cpu : ℕ) (op : Op) (left : ℕ) → OpRank g v cpu op left → 1 ≤ left
-op_rank_some g v cpu op left (no_tag start short none h) = h
-op_rank_some g v cpu op left (served has is h) = h
-op_rank_some g v cpu op left (has_page has h) = omega (arith, h)
-op_rank_some g v cpu op left (fills_own page tag phase wants tagged h) = omega (arith, h)
-op_rank_some g v cpu op left (has_none tag start wants none some h) = omega (arith, h)
-op_rank_some g v cpu op left (has_lost has h) = omega (arith, h)
-op_rank_some g v cpu op left (room_clean next k h) = omega (arith, h)
-op_rank_some g v cpu op left (pages_out_own out k h) = omega (arith, h)
-op_rank_some g v cpu op left (needs_room k full h) = omega (arith, h)
-op_rank_some g v cpu op left (pages_out out at h) = omega (arith, h)
-op_rank_some g v cpu op left (fills page phase h) = omega (arith, h)
-op_rank_some g v cpu op left (at_look file index is looks h some) = some
-op_rank_some g v cpu op left (at_write file index page is phase h some) = some
-op_rank_some g v cpu op left (unmaps number is start h some) = omega (arith, some)
-op_rank_some g v cpu op left (tears number slot index is phase h some) = some
+  op_rank_some : (op : Op) (left : ℕ) → OpRank op left → 1 ≤ left
+  op_rank_some op left (no_tag start short none h) = h
+  op_rank_some op left (served has is h) = h
+  op_rank_some op left (has_page has h) = omega (arith, h)
+  op_rank_some op left (fills_own page tag phase wants tagged h) = omega (arith, h)
+  op_rank_some op left (has_none tag start wants none some h) = omega (arith, h)
+  op_rank_some op left (has_lost has h) = omega (arith, h)
+  op_rank_some op left (room_clean next k h) = omega (arith, h)
+  op_rank_some op left (pages_out_own out k h) = omega (arith, h)
+  op_rank_some op left (needs_room k full h) = omega (arith, h)
+  op_rank_some op left (pages_out out at h) = omega (arith, h)
+  op_rank_some op left (fills page phase h) = omega (arith, h)
+  op_rank_some op left (at_look file index is looks h some) = some
+  op_rank_some op left (at_write file index page is phase h some) = some
+  op_rank_some op left (unmaps number is start h some) = omega (arith, some)
+  op_rank_some op left (tears number slot index is phase h some) = some
 
-pub rank_some : (g : GuestState) (v : StorageView) (cpu left : ℕ) → Rank g v cpu left → 1 ≤ left
-rank_some g v cpu left (no_command none h) = h
-rank_some g v cpu left (has_command op command rank) = op_rank_some g v cpu op left rank
+  pub rank_some : (left : ℕ) → Rank left → 1 ≤ left
+  rank_some left (no_command none h) = h
+  rank_some left (has_command op command rank) = op_rank_some op left rank
 
--- the rank of a processor that has this command
-pub rank_of : (g : GuestState) (v : StorageView) (cpu : ℕ) (op : Op) (left : ℕ) → command_of g.plan cpu (processor_at g cpu).place ≡ Some op → Rank g v cpu left → OpRank g v cpu op left
-rank_of g v cpu op left command (no_command none h) = let bad : None ≡ Some op = sym none ∙ command in absurd cc
-rank_of g v cpu op left command (has_command op' command' rank) =
-    let both : Some op' ≡ Some op = sym command' ∙ command in
-    let same : op' ≡ op = cc in
-    subst (λ q. OpRank g v cpu q left) same rank
+  -- op its command, left how many turns are left
+  module _ (op : Op) (left : ℕ) where
+    -- the rank of a processor that has this command
+    pub rank_of : command_of g.plan cpu (processor_at g cpu).place ≡ Some op → Rank left → OpRank op left
+    rank_of command (no_command none h) = let bad : None ≡ Some op = sym none ∙ command in absurd cc
+    rank_of command (has_command op' command' rank) =
+        let both : Some op' ≡ Some op = sym command' ∙ command in
+        let same : op' ≡ op = cc in
+        subst (λ q. OpRank q left) same rank
 
--- a processor in phase Start whose command is short has at most 7 turns left
-start_page : (g : GuestState) (v : StorageView) (cpu : ℕ) (op : Op) (left : ℕ) (lost : Bool) → HasItsPage g v cpu op lost → 7 ≤ left → OpRank g v cpu op left
-start_page g v cpu op left true has h = has_lost has (omega (arith, h))
-start_page g v cpu op left false has h = has_page has (omega (arith, h))
+    -- a processor in phase Start whose command is short has at most 7 turns left
+    start_page : (lost : Bool) → HasItsPage op lost → 7 ≤ left → OpRank op left
+    start_page true has h = has_lost has (omega (arith, h))
+    start_page false has h = has_page has (omega (arith, h))
 
-start_wanting : (g : GuestState) (v : StorageView) (cpu : ℕ) (op : Op) (left : ℕ) (free : List ℕ) → NeedsFreePage g cpu op → g.parts.pages.free ≡ free → 7 ≤ left → OpRank g v cpu op left
-start_wanting g v cpu op left [] k full h = needs_room k full h
-start_wanting g v cpu op left (page ∷ rest) k free h =
-    has_none k.tag k.start k.wants k.none (λ full. let bad : page ∷ rest ≡ [] = sym free ∙ full in cc) (omega (arith, h))
+    start_wanting : (free : List ℕ) → NeedsFreePage g cpu op → g.parts.pages.free ≡ free → 7 ≤ left → OpRank op left
+    start_wanting [] k full h = needs_room k full h
+    start_wanting (page ∷ rest) k free h = has_none k.tag k.start k.wants k.none (λ full. let bad : page ∷ rest ≡ [] = sym free ∙ full in cc) (omega (arith, h))
 
-start_found : (g : GuestState) (v : StorageView) (cpu : ℕ) (op : Op) (left : ℕ) (tag : Tag) (page : Option ℕ) → command_of g.plan cpu (processor_at g cpu).place ≡ Some op
-    → (processor_at g cpu).phase ≡ Start → 7 ≤ left
-    → Wants g cpu op tag → page_of g.parts.cache tag ≡ page → OpRank g v cpu op left
-start_found g v cpu op left tag None command start h wants none =
-    start_wanting g v cpu op left g.parts.pages.free (record { command = command; start = start; tag = tag; wants = wants; none = none }) refl h
-start_found g v cpu op left tag (Some page) command start h wants found =
-    start_page g v cpu op left (is_lost (v.values page).contents) (record { start = start; tag = tag; page = page; wants = wants; found = found; lost_is = refl }) h
+    start_found : (tag : Tag) (page : Option ℕ) → command_of g.plan cpu (processor_at g cpu).place ≡ Some op → (processor_at g cpu).phase ≡ Start → 7 ≤ left → Wants g cpu op tag
+        → page_of g.parts.cache tag ≡ page → OpRank op left
+    start_found tag None command start h wants none = start_wanting g.parts.pages.free (record { command = command; start = start; tag = tag; wants = wants; none = none }) refl h
+    start_found tag (Some page) command start h wants found =
+        start_page (is_lost (v.values page).contents) (record { start = start; tag = tag; page = page; wants = wants; found = found; lost_is = refl }) h
 
-start_tagged : (g : GuestState) (v : StorageView) (cpu : ℕ) (op : Op) (left : ℕ) (tag : Option Tag) → command_of g.plan cpu (processor_at g cpu).place ≡ Some op → (processor_at g cpu).phase ≡ Start
-    → IsShort op → 7 ≤ left → wanted_tag g.parts (process_of g.plan cpu) op ≡ tag → OpRank g v cpu op left
-start_tagged g v cpu op left None command start short h none = no_tag start short none (omega (arith, h))
-start_tagged g v cpu op left (Some tag) command start short h wants = start_found g v cpu op left tag (page_of g.parts.cache tag) command start h wants refl
+    start_tagged : (tag : Option Tag) → command_of g.plan cpu (processor_at g cpu).place ≡ Some op → (processor_at g cpu).phase ≡ Start → IsShort op → 7 ≤ left
+        → wanted_tag g.parts (process_of g.plan cpu) op ≡ tag → OpRank op left
+    start_tagged None command start short h none = no_tag start short none (omega (arith, h))
+    start_tagged (Some tag) command start short h wants = start_found tag (page_of g.parts.cache tag) command start h wants refl
 
-pub start_rank : (g : GuestState) (v : StorageView) (cpu : ℕ) (op : Op) (left : ℕ) → command_of g.plan cpu (processor_at g cpu).place ≡ Some op → (processor_at g cpu).phase ≡ Start → IsShort op
-    → 7 ≤ left → OpRank g v cpu op left
-start_rank g v cpu op left command start short h = start_tagged g v cpu op left (wanted_tag g.parts (process_of g.plan cpu) op) command start short h refl
+    pub start_rank : command_of g.plan cpu (processor_at g cpu).place ≡ Some op → (processor_at g cpu).phase ≡ Start → IsShort op → 7 ≤ left → OpRank op left
+    start_rank command start short h = start_tagged (wanted_tag g.parts (process_of g.plan cpu) op) command start short h refl
 
--- and every processor whose command is short at most 12, of which it needs 8
-phase_rank : (g : GuestState) (v : StorageView) (cpu : ℕ) (op : Op) (left : ℕ) (phase : Phase) → LocksFit g → TeardownsFit g → command_of g.plan cpu (processor_at g cpu).place ≡ Some op → IsShort op
-    → (processor_at g cpu).phase ≡ phase → 8 ≤ left → OpRank g v cpu op left
-phase_rank g v cpu op left Start f downs command short phase h = start_rank g v cpu op left command phase short (omega (arith, h))
-phase_rank g v cpu op left (Fill page) f downs command short phase h = fills page phase h
-phase_rank g v cpu op left (AtRoom page) f downs command short phase h = pages_out page phase h
-phase_rank g v cpu op left (AtSync index) f downs command short phase h =
-    let (file, k) = f.syncing cpu index phase in
-    let both : Some op ≡ Some (Sync file) = sym command ∙ k.command in
-    let same : op ≡ Sync file = cc in
-    absurd (subst IsShort same short)
-phase_rank g v cpu op left (SyncWrite index page) f downs command short phase h =
-    let k = f.writing cpu index page phase in
-    let both : Some op ≡ Some (Sync k.file) = sym command ∙ k.syncing.command in
-    let same : op ≡ Sync k.file = cc in
-    absurd (subst IsShort same short)
-phase_rank g v cpu op left (Teardown slot index) f downs command short phase h =
-    let k = downs.tearing cpu slot index phase in
-    let both : Some op ≡ Some (Unmap k.number) = sym command ∙ k.command in
-    let same : op ≡ Unmap k.number = cc in
-    absurd (subst IsShort same short)
+    -- and every processor whose command is short at most 12, of which it needs 8
+    phase_rank : (phase : Phase) → LocksFit g → TeardownsFit g → command_of g.plan cpu (processor_at g cpu).place ≡ Some op → IsShort op → (processor_at g cpu).phase ≡ phase → 8 ≤ left
+        → OpRank op left
+    phase_rank Start f downs command short phase h = start_rank command phase short (omega (arith, h))
+    phase_rank (Fill page) f downs command short phase h = fills page phase h
+    phase_rank (AtRoom page) f downs command short phase h = pages_out page phase h
+    phase_rank (AtSync index) f downs command short phase h =
+        let (file, k) = f.syncing cpu index phase in
+        let both : Some op ≡ Some (Sync file) = sym command ∙ k.command in
+        let same : op ≡ Sync file = cc in
+        absurd (subst IsShort same short)
+    phase_rank (SyncWrite index page) f downs command short phase h =
+        let k = f.writing cpu index page phase in
+        let both : Some op ≡ Some (Sync k.file) = sym command ∙ k.syncing.command in
+        let same : op ≡ Sync k.file = cc in
+        absurd (subst IsShort same short)
+    phase_rank (Teardown slot index) f downs command short phase h =
+        let k = downs.tearing cpu slot index phase in
+        let both : Some op ≡ Some (Unmap k.number) = sym command ∙ k.command in
+        let same : op ≡ Unmap k.number = cc in
+        absurd (subst IsShort same short)
 
 some_turns : (pages : ℕ) → (pages + 1 ≤ 12 + 3 * pages) × (2 ≤ 12 + 3 * pages)
 some_turns pages = (omega arith, omega arith)

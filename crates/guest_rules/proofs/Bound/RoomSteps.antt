@@ -212,78 +212,78 @@ goes_next g cpu tag page changed goes =
     cache : after.cache ≡ with_swap_slot g.parts.cache (Some tag)
     cache = (only-cleaned held page).cache ∙ (only-locked slotted page cpu).cache ∙ ap (λ (c : CacheView). with_swap_slot c (Some tag)) (only-changed g.parts page changed).cache
 
-held_rank : (g : GuestState) (w : StorageView) (cpu : ℕ) (op : Op) (tag : Tag) (page left : ℕ) (changed : Bool) → SeeksRoom g cpu op → Goes g tag page → (w.values page).changed ≡ false → 6 ≤ left
-    → Rank (with_phase (with_parts g (locked (to_go g.parts page changed tag) page cpu)) cpu (AtRoom page)) w cpu left
-unfolding with_phase
-held_rank g w cpu op tag page left changed k goes unchanged h =
-    let middle = with_change g.parts page changed in
-    let slotted = to_go g.parts page changed tag in
-    let held = locked slotted page cpu in
-    let at = at_phase g cpu op held (AtRoom page) k.starts.has in
-    let only = only-locked slotted page cpu in
-    let before = only-changed g.parts page changed in
-    let slots = ap (λ (m : MapsView). m.slots) (maps-locked slotted page cpu ∙ maps-changed g.parts page changed) in
-    has_command op at.command
-    (pages_out_own page (record {
-      phase = at.phase_is;
-      tag = k.tag;
-      wants = wanted-same g.parts held (process_of g.plan cpu) op slots ∙ k.wants;
-      none = ap (λ (c : CacheView). page_of c k.tag) only.cache ∙ page_of-slot middle.cache tag k.tag ∙ ap (λ (c : CacheView). page_of c k.tag) before.cache ∙ k.none;
-      full = only.free ∙ before.free ∙ k.full;
-      next = goes_next g cpu tag page changed goes;
-      unchanged = unchanged;
-    }) h)
+-- g the guest before, w its storage after, cpu the processor, op its command, left how many turns are left
+module _ (g : GuestState) (w : StorageView) (cpu : ℕ) (op : Op) (left : ℕ) where
+  held_rank : (tag : Tag) (page : ℕ) (changed : Bool) → SeeksRoom g cpu op → Goes g tag page → (w.values page).changed ≡ false → 6 ≤ left
+      → Rank (with_phase (with_parts g (locked (to_go g.parts page changed tag) page cpu)) cpu (AtRoom page)) w cpu left
+  unfolding with_phase
+  held_rank tag page changed k goes unchanged h =
+      let middle = with_change g.parts page changed in
+      let slotted = to_go g.parts page changed tag in
+      let held = locked slotted page cpu in
+      let at = at_phase g cpu op held (AtRoom page) k.starts.has in
+      let only = only-locked slotted page cpu in
+      let before = only-changed g.parts page changed in
+      let slots = ap (λ (m : MapsView). m.slots) (maps-locked slotted page cpu ∙ maps-changed g.parts page changed) in
+      has_command op at.command
+      (pages_out_own page (record {
+        phase = at.phase_is;
+        tag = k.tag;
+        wants = wanted-same g.parts held (process_of g.plan cpu) op slots ∙ k.wants;
+        none = ap (λ (c : CacheView). page_of c k.tag) only.cache ∙ page_of-slot middle.cache tag k.tag ∙ ap (λ (c : CacheView). page_of c k.tag) before.cache ∙ k.none;
+        full = only.free ∙ before.free ∙ k.full;
+        next = goes_next g cpu tag page changed goes;
+        unchanged = unchanged;
+      }) h)
 
-locked_rank : (g : GuestState) (v w : StorageView) (d : DiskView) (cpu : ℕ) (op : Op) (tag : Tag) (page left : ℕ) (changed : Bool) → Fit g v d → SeeksRoom g cpu op → Goes g tag page
-    → (w.values page).changed ≡ false → 6 ≤ left
-    → Rank (with_phase (with_parts g (locked_to_go (with_change g.parts page changed) page cpu)) cpu (AtRoom page)) w cpu left
-locked_rank g v w d cpu op tag page left changed f k goes unchanged h =
-    let tagged : (info_at (with_change g.parts page changed).pages page).tag ≡ Some tag =
-    ap (λ (i : PageInfo). i.tag) (change-changed g.parts page changed goes.has.below).here ∙ (is_changed (info_at g.parts.pages page) changed).tag ∙ goes.has.tagged in
-    subst (λ (q : Parts). Rank (with_phase (with_parts g q) cpu (AtRoom page)) w cpu left)
-    (sym (locked_to_go-slotted (with_change g.parts page changed) page cpu tag tagged))
-    (held_rank g w cpu op tag page left changed k goes unchanged h)
+  locked_rank : (v : StorageView) (d : DiskView) (tag : Tag) (page : ℕ) (changed : Bool) → Fit g v d → SeeksRoom g cpu op → Goes g tag page → (w.values page).changed ≡ false → 6 ≤ left
+      → Rank (with_phase (with_parts g (locked_to_go (with_change g.parts page changed) page cpu)) cpu (AtRoom page)) w cpu left
+  locked_rank v d tag page changed f k goes unchanged h =
+      let tagged : (info_at (with_change g.parts page changed).pages page).tag ≡ Some tag =
+      ap (λ (i : PageInfo). i.tag) (change-changed g.parts page changed goes.has.below).here ∙ (is_changed (info_at g.parts.pages page) changed).tag ∙ goes.has.tagged in
+      subst (λ (q : Parts). Rank (with_phase (with_parts g q) cpu (AtRoom page)) w cpu left)
+      (sym (locked_to_go-slotted (with_change g.parts page changed) page cpu tag tagged))
+      (held_rank tag page changed k goes unchanged h)
 
--- ---- it was written back
+  -- ---- it was written back
 
-cleared_rank : (g : GuestState) (v w : StorageView) (cpu : ℕ) (op : Op) (page left : ℕ) → Has g cpu op → page < length g.parts.pages.infos → PagesOutOwn g v cpu op page
-    → (w.values page).changed ≡ false → 5 ≤ left → Rank (with_phase (with_parts g (cleaned g.parts page)) cpu Start) w cpu left
-unfolding with_phase
-cleared_rank g v w cpu op page left has below own unchanged h =
-    let after = cleaned g.parts page in
-    let at = at_phase g cpu op after Start has in
-    let only = only-cleaned g.parts page in
-    let slots = ap (λ (m : MapsView). m.slots) (maps-cleaned g.parts page) in
-    has_command op at.command
-    (room_clean page (record {
-      needs = record {
-        command = at.command;
-        start = at.phase_is;
-        tag = own.tag;
-        wants = wanted-same g.parts after (process_of g.plan cpu) op slots ∙ own.wants;
-        none = ap (λ (c : CacheView). page_of c own.tag) only.cache ∙ own.none;
-      };
-      full = only.free ∙ own.full;
-      first = own.next;
-      clean = ap (λ (i : PageInfo). i.dirty) (change-cleaned g.parts page below).here;
-      unchanged = unchanged;
-    }) h)
+  cleared_rank : (v : StorageView) (page : ℕ) → Has g cpu op → page < length g.parts.pages.infos → PagesOutOwn g v cpu op page → (w.values page).changed ≡ false → 5 ≤ left
+      → Rank (with_phase (with_parts g (cleaned g.parts page)) cpu Start) w cpu left
+  unfolding with_phase
+  cleared_rank v page has below own unchanged h =
+      let after = cleaned g.parts page in
+      let at = at_phase g cpu op after Start has in
+      let only = only-cleaned g.parts page in
+      let slots = ap (λ (m : MapsView). m.slots) (maps-cleaned g.parts page) in
+      has_command op at.command
+      (room_clean page (record {
+        needs = record {
+          command = at.command;
+          start = at.phase_is;
+          tag = own.tag;
+          wants = wanted-same g.parts after (process_of g.plan cpu) op slots ∙ own.wants;
+          none = ap (λ (c : CacheView). page_of c own.tag) only.cache ∙ own.none;
+        };
+        full = only.free ∙ own.full;
+        first = own.next;
+        clean = ap (λ (i : PageInfo). i.dirty) (change-cleaned g.parts page below).here;
+        unchanged = unchanged;
+      }) h)
 
-started_rank : (g : GuestState) (w : StorageView) (cpu : ℕ) (op : Op) (after : Parts) (left : ℕ) → Has g cpu op → IsShort op → 7 ≤ left → Rank (with_phase (with_parts g after) cpu Start) w cpu left
-unfolding with_phase
-started_rank g w cpu op after left has other h =
-    let at = at_phase g cpu op after Start has in
-    has_command op at.command (start_rank (with_phase (with_parts g after) cpu Start) w cpu op left at.command at.phase_is other h)
+  started_rank : (after : Parts) → Has g cpu op → IsShort op → 7 ≤ left → Rank (with_phase (with_parts g after) cpu Start) w cpu left
+  unfolding with_phase
+  started_rank after has other h =
+      let at = at_phase g cpu op after Start has in
+      has_command op at.command (start_rank (with_phase (with_parts g after) cpu Start) w cpu op left at.command at.phase_is other h)
 
-paged_out_rank : (g : GuestState) (v w : StorageView) (d : DiskView) (cpu : ℕ) (op : Op) (tag : Tag) (page left : ℕ) (after : Parts) → Fit g v d → PagesOut g cpu op tag page
-    → IsRehinted (cleaned g.parts page) page (v.values page) after (w.values page) → (PagesOutOwn g v cpu op page × (6 ≤ suc left)) ⊎ (8 ≤ suc left)
-    → Rank (with_phase (with_parts g after) cpu Start) w cpu left
-paged_out_rank g v w d cpu op tag page left after f k told (inl (own, h)) =
-    let tables : after ≡ cleaned g.parts page = told.tables ∙ ap (with_change (cleaned g.parts page) page) own.unchanged in
-    subst (λ (q : Parts). Rank (with_phase (with_parts g q) cpu Start) w cpu left) (sym tables)
-    (cleared_rank g v w cpu op page left k.has (f.locks.paging_out cpu page k.phase).below own (ap (λ (x : PageValue). x.changed) told.value) (omega (arith, h)))
-paged_out_rank g v w d cpu op tag page left after f k told (inr h) =
-    started_rank g w cpu op after left k.has (needs-short op (pages_out-needs g cpu op tag page f.locks k)) (omega (arith, h))
+  paged_out_rank : (v : StorageView) (d : DiskView) (tag : Tag) (page : ℕ) (after : Parts) → Fit g v d → PagesOut g cpu op tag page
+      → IsRehinted (cleaned g.parts page) page (v.values page) after (w.values page) → (PagesOutOwn g v cpu op page × (6 ≤ suc left)) ⊎ (8 ≤ suc left)
+      → Rank (with_phase (with_parts g after) cpu Start) w cpu left
+  paged_out_rank v d tag page after f k told (inl (own, h)) =
+      let tables : after ≡ cleaned g.parts page = told.tables ∙ ap (with_change (cleaned g.parts page) page) own.unchanged in
+      subst (λ (q : Parts). Rank (with_phase (with_parts g q) cpu Start) w cpu left) (sym tables)
+      (cleared_rank v page k.has (f.locks.paging_out cpu page k.phase).below own (ap (λ (x : PageValue). x.changed) told.value) (omega (arith, h)))
+  paged_out_rank v d tag page after f k told (inr h) = started_rank after k.has (needs-short op (pages_out-needs g cpu op tag page f.locks k)) (omega (arith, h))
 
 -- ---- the steps
 
@@ -305,14 +305,14 @@ room_step g v w d e cpu op left h f (was_cleared tag page found k goes back may 
     rw eh (freed_rank g w cpu op page left (behind (freed g.parts page) page) k (has-behind g.parts page) (omega (arith, few)))
 room_step g v w d e cpu op left h f (was_locked_to_go tag page found k goes back may there dirty value eh et) rank =
     let few = rank-unclean g v cpu op tag page (suc left) k goes (unclean g v d tag page found f goes may there dirty) (rank_of g v cpu op (suc left) k.starts.has.command rank) in
-    rw eh (locked_rank g v w d cpu op tag page left found.changed f k goes (ap (λ (x : PageValue). x.changed) value) (omega (arith, few)))
+    rw eh (locked_rank g w cpu op left v d tag page found.changed f k goes (ap (λ (x : PageValue). x.changed) value) (omega (arith, few)))
 room_step g v w d e cpu op left h f (room_missed why k eh et may misses ee) rank = absurd (cc et)
 room_step g v w d e cpu op left h f (room_waited page owner k none first locked eh et ew ee) rank = absurd (cc et)
 room_step g v w d e cpu op left h f (had_no_page k none unlocked eh et ew ee) rank = absurd (cc et)
 room_step g v w d e cpu op left h f (page_out_missed tag page why k eh et may misses ee) rank = absurd (cc et)
 room_step g v w d e cpu op left h f (was_paged_out tag page bytes after k are written told eh et) rank =
     let few = rank-pages_out g v cpu op page (suc left) k.phase (rank_of g v cpu op (suc left) k.has.command rank) in
-    rw eh (paged_out_rank g v w d cpu op tag page left after f k told few)
+    rw eh (paged_out_rank g w cpu op left v d tag page after f k told few)
 room_step g v w d e cpu op left h f (page_out_failed tag page cause after k back told why eh et) rank = absurd (cc et)
 
 pub room_never_again : (g : GuestState) (v w : StorageView) (d e : DiskView) (cpu : ℕ) (op : Op) (h : GuestState) (why : Why) → v.quiet ≡ true → RoomCase g cpu op v d h (Again why) w e → ⊥

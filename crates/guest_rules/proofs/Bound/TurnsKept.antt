@@ -24,39 +24,41 @@ use Rattle.guest_rules.proofs.Bound.TearSteps.{HasBegun, has_begun, HasGoneOn, t
 abbrev Unmaps : GuestState → (cpu number : ℕ) → Type 0
 Unmaps g cpu number = command_of g.plan cpu (processor_at g cpu).place ≡ Some (Unmap number)
 
-one_command : (g : GuestState) (cpu number : ℕ) (op : Op) → Unmaps g cpu number → command_of g.plan cpu (processor_at g cpu).place ≡ Some op → op ≡ Unmap number
-one_command g cpu number op command command' = let both : Some op ≡ Some (Unmap number) = sym command' ∙ command in cc
+-- g the guest, cpu the processor, number the number of a mapping
+module _ (g : GuestState) (cpu number : ℕ) where
+  one_command : (op : Op) → Unmaps g cpu number → command_of g.plan cpu (processor_at g cpu).place ≡ Some op → op ≡ Unmap number
+  one_command op command command' = let both : Some op ≡ Some (Unmap number) = sym command' ∙ command in cc
 
--- it needs no page, and isn't a sync
-not_wanting : (g : GuestState) (cpu number : ℕ) (op : Op) (tag : Tag) → Unmaps g cpu number → Has g cpu op → Wants g cpu op tag → ⊥
-not_wanting g cpu number op tag command has wants = wants_not_unmap g cpu op tag number wants (one_command g cpu number op command has.command)
+  -- it needs no page, and isn't a sync
+  not_wanting : (op : Op) (tag : Tag) → Unmaps g cpu number → Has g cpu op → Wants g cpu op tag → ⊥
+  not_wanting op tag command has wants = wants_not_unmap g cpu op tag number wants (one_command op command has.command)
 
-not_syncing : (g : GuestState) (cpu number file : ℕ) → Unmaps g cpu number → Has g cpu (Sync file) → ⊥
-not_syncing g cpu number file command has = let bad : Sync file ≡ Unmap number = one_command g cpu number (Sync file) command has.command in cc bad
+  not_syncing : (file : ℕ) → Unmaps g cpu number → Has g cpu (Sync file) → ⊥
+  not_syncing file command has = let bad : Sync file ≡ Unmap number = one_command (Sync file) command has.command in cc bad
 
--- so no turn of it is one of a sync's, nor is one to make room
-unmap_no_sync : (g : GuestState) (v w : StorageView) (d e : DiskView) (cpu number file index : ℕ) (h : GuestState) → Unmaps g cpu number → SyncCase g cpu file index v d h Moved w e → ⊥
-unmap_no_sync g v w d e cpu number file index h command (not_there k none passes ew ee) = not_syncing g cpu number file command k.has
-unmap_no_sync g v w d e cpu number file index h command (sync_waited page owner k locked eh et ew ee) = cc et
-unmap_no_sync g v w d e cpu number file index h command (sync_missed why k eh et may misses ee) = cc et
-unmap_no_sync g v w d e cpu number file index h command (sync_gone page found k has back may lost unused passes) = not_syncing g cpu number file command k.has
-unmap_no_sync g v w d e cpu number file index h command (was_clean page found k has back may told unchanged clean passes) = not_syncing g cpu number file command k.has
-unmap_no_sync g v w d e cpu number file index h command (was_locked page found k has back may there dirty value eh et) = not_syncing g cpu number file command k.has
-unmap_no_sync g v w d e cpu number file index h command (write_missed page why k eh et may misses ee) = cc et
-unmap_no_sync g v w d e cpu number file index h command (was_written_back page bytes after k are written told passes) = not_syncing g cpu number file command k.has
-unmap_no_sync g v w d e cpu number file index h command (write_failed page cause after k back told why eh et) = cc et
+  -- so no turn of it is one of a sync's, nor is one to make room
+  unmap_no_sync : (v w : StorageView) (d e : DiskView) (file index : ℕ) (h : GuestState) → Unmaps g cpu number → SyncCase g cpu file index v d h Moved w e → ⊥
+  unmap_no_sync v w d e file index h command (not_there k none passes ew ee) = not_syncing file command k.has
+  unmap_no_sync v w d e file index h command (sync_waited page owner k locked eh et ew ee) = cc et
+  unmap_no_sync v w d e file index h command (sync_missed why k eh et may misses ee) = cc et
+  unmap_no_sync v w d e file index h command (sync_gone page found k has back may lost unused passes) = not_syncing file command k.has
+  unmap_no_sync v w d e file index h command (was_clean page found k has back may told unchanged clean passes) = not_syncing file command k.has
+  unmap_no_sync v w d e file index h command (was_locked page found k has back may there dirty value eh et) = not_syncing file command k.has
+  unmap_no_sync v w d e file index h command (write_missed page why k eh et may misses ee) = cc et
+  unmap_no_sync v w d e file index h command (was_written_back page bytes after k are written told passes) = not_syncing file command k.has
+  unmap_no_sync v w d e file index h command (write_failed page cause after k back told why eh et) = cc et
 
-unmap_no_room : (g : GuestState) (v w : StorageView) (d e : DiskView) (cpu number : ℕ) (op : Op) (h : GuestState) → Fit g v d → Unmaps g cpu number → RoomCase g cpu op v d h Moved w e → ⊥
-unmap_no_room g v w d e cpu number op h f command (room_gone tag page found k goes back may lost unused eh et) = not_wanting g cpu number op k.tag command k.starts.has k.wants
-unmap_no_room g v w d e cpu number op h f command (was_cleared tag page found k goes back may there unchanged clean unused eh et) = not_wanting g cpu number op k.tag command k.starts.has k.wants
-unmap_no_room g v w d e cpu number op h f command (was_locked_to_go tag page found k goes back may there dirty value eh et) = not_wanting g cpu number op k.tag command k.starts.has k.wants
-unmap_no_room g v w d e cpu number op h f command (room_missed why k eh et may misses ee) = cc et
-unmap_no_room g v w d e cpu number op h f command (room_waited page owner k none first locked eh et ew ee) = cc et
-unmap_no_room g v w d e cpu number op h f command (had_no_page k none unlocked eh et ew ee) = cc et
-unmap_no_room g v w d e cpu number op h f command (page_out_missed tag page why k eh et may misses ee) = cc et
-unmap_no_room g v w d e cpu number op h f command (was_paged_out tag page bytes after k are written told eh et) =
-    pages_out_no_unmap g v d cpu op page f k.has k.phase number (one_command g cpu number op command k.has.command)
-unmap_no_room g v w d e cpu number op h f command (page_out_failed tag page cause after k back told why eh et) = cc et
+  unmap_no_room : (v w : StorageView) (d e : DiskView) (op : Op) (h : GuestState) → Fit g v d → Unmaps g cpu number → RoomCase g cpu op v d h Moved w e → ⊥
+  unmap_no_room v w d e op h f command (room_gone tag page found k goes back may lost unused eh et) = not_wanting op k.tag command k.starts.has k.wants
+  unmap_no_room v w d e op h f command (was_cleared tag page found k goes back may there unchanged clean unused eh et) = not_wanting op k.tag command k.starts.has k.wants
+  unmap_no_room v w d e op h f command (was_locked_to_go tag page found k goes back may there dirty value eh et) = not_wanting op k.tag command k.starts.has k.wants
+  unmap_no_room v w d e op h f command (room_missed why k eh et may misses ee) = cc et
+  unmap_no_room v w d e op h f command (room_waited page owner k none first locked eh et ew ee) = cc et
+  unmap_no_room v w d e op h f command (had_no_page k none unlocked eh et ew ee) = cc et
+  unmap_no_room v w d e op h f command (page_out_missed tag page why k eh et may misses ee) = cc et
+  unmap_no_room v w d e op h f command (was_paged_out tag page bytes after k are written told eh et) =
+      pages_out_no_unmap g v d cpu op page f k.has k.phase number (one_command op command k.has.command)
+  unmap_no_room v w d e op h f command (page_out_failed tag page cause after k back told why eh et) = cc et
 
 -- the pages that are to be taken off
 abbrev ToTear : GuestState → (cpu number : ℕ) → ℕ
@@ -100,8 +102,8 @@ pages_kept g v w d e cpu number h f command (entry_failed op writes slot off sta
 pages_kept g v w d e cpu number h f command (fill_failed op page cause has phase eh et back unused why) = absurd (cc et)
 pages_kept g v w d e cpu number h f command (was_filled op page tag has phase tagged eh et back value) =
     absurd (fills_no_unmap g v d cpu op page f has phase number (one_command g cpu number op command has.command))
-pages_kept g v w d e cpu number h f command (was_sync file index k) = absurd (unmap_no_sync g v w d e cpu number file index h command k)
-pages_kept g v w d e cpu number h f command (was_room op k) = absurd (unmap_no_room g v w d e cpu number op h f command k)
+pages_kept g v w d e cpu number h f command (was_sync file index k) = absurd (unmap_no_sync g cpu number v w d e file index h command k)
+pages_kept g v w d e cpu number h f command (was_room op k) = absurd (unmap_no_room g cpu number v w d e op h f command k)
 pages_kept g v w d e cpu number h f command (was_unmapped other slot starts found eh et ew ee) =
     let is : Unmap other ≡ Unmap number = one_command g cpu number (Unmap other) command starts.has.command in
     let same : other ≡ number = cc is in

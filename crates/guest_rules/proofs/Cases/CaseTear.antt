@@ -40,77 +40,75 @@ past : (g : GuestState) (cpu slot index : ℕ) (k : IsTearing g cpu slot index) 
     → ◌≡◌ {A = GuestState × Turn} (h, t) (torn_past (with_parts g after) cpu slot index k.mapping.count) → TearsPast g cpu slot index after h t
 past g cpu slot index k after h t is = is ∙ ap (λ o. torn_past (with_parts g after) cpu slot index (mapping_pages o)) (sym k.at)
 
-case_cleared : (state : FlatState) (g : GuestState) (v n w : StorageView) (d y e : DiskView) (cpu slot index : ℕ) (pte : Pte) (parts : Parts) (r : Placed) (h : GuestState) (t : Turn)
-    → FitAt state g v d → (k : Tears g cpu slot index) → entry_at g.parts.maps slot index ≡ Some pte → ClearOutcome g.parts slot index pte v d parts r n y
-    → Seen {A = GuestState × Turn} (torn_next g cpu slot index k.tearing.mapping.count parts r) n y (h, t) w e → TearCase g cpu slot index v d h t w e
-case_cleared state g v n w d y e cpu slot index pte parts PlaceDone h t f k at (found, is) (ea, em, ed) =
-    let its = torn_page state g v d cpu slot index pte f k.tearing at in
-    was_cleared_at its.0.tag pte found parts k at its.1 (rw (em, ed) is.back) is.may (rw em is.rehinted) (past g cpu slot index k.tearing parts h t ea)
-case_cleared state g v n w d y e cpu slot index pte parts PlaceGone h t f k at o (ea, em, ed) =
-    let its = torn_page state g v d cpu slot index pte f k.tearing at in
-    tear_gone its.0.tag pte o.found k at (lost_unlocked state g v d pte.page its.0.tag o.found f its.1 o.may o.lost) (rw (em, ed) o.back) o.may o.lost (rw em o.unused)
-    (subst (λ q. TearsPast g cpu slot index q h t) o.tables (past g cpu slot index k.tearing parts h t ea))
-case_cleared state g v n w d y e cpu slot index pte parts (PlaceAgain why) h t f k at (tables, may, misses, disk) (ea, em, ed) =
-    tear_missed why k (ap (λ q. q.0) ea ∙ ap (λ q. with_parts g q) tables) (ap (λ q. q.1) ea) (rw (em, ed) may) (rw em misses) (ed ∙ disk)
+-- g and h the guest before and after, v and w its storage before and after, d and e its disk before and after, cpu the processor, slot the slot of a mapping, index a page of it, t the turn
+module _ (g : GuestState) (v w : StorageView) (d e : DiskView) (cpu slot index : ℕ) (h : GuestState) (t : Turn) where
+  case_cleared : (state : FlatState) (n : StorageView) (y : DiskView) (pte : Pte) (parts : Parts) (r : Placed) → FitAt state g v d → (k : Tears g cpu slot index)
+      → entry_at g.parts.maps slot index ≡ Some pte → ClearOutcome g.parts slot index pte v d parts r n y
+      → Seen {A = GuestState × Turn} (torn_next g cpu slot index k.tearing.mapping.count parts r) n y (h, t) w e → TearCase g cpu slot index v d h t w e
+  case_cleared state n y pte parts PlaceDone f k at (found, is) (ea, em, ed) =
+      let its = torn_page state g v d cpu slot index pte f k.tearing at in
+      was_cleared_at its.0.tag pte found parts k at its.1 (rw (em, ed) is.back) is.may (rw em is.rehinted) (past g cpu slot index k.tearing parts h t ea)
+  case_cleared state n y pte parts PlaceGone f k at o (ea, em, ed) =
+      let its = torn_page state g v d cpu slot index pte f k.tearing at in
+      tear_gone its.0.tag pte o.found k at (lost_unlocked state g v d pte.page its.0.tag o.found f its.1 o.may o.lost) (rw (em, ed) o.back) o.may o.lost (rw em o.unused)
+      (subst (λ q. TearsPast g cpu slot index q h t) o.tables (past g cpu slot index k.tearing parts h t ea))
+  case_cleared state n y pte parts (PlaceAgain why) f k at (tables, may, misses, disk) (ea, em, ed) =
+      tear_missed why k (ap (λ q. q.0) ea ∙ ap (λ q. with_parts g q) tables) (ap (λ q. q.1) ea) (rw (em, ed) may) (rw em misses) (ed ∙ disk)
 
-case_entry : (state : FlatState) (g : GuestState) (v w : StorageView) (d e : DiskView) (cpu slot index : ℕ) (pte : Option Pte) (h : GuestState) (t : Turn)
-    → FitAt state g v d → (k : Tears g cpu slot index) → entry_at g.parts.maps slot index ≡ pte
-    → Seen {A = GuestState × Turn} (teardown_entry g cpu slot index k.tearing.mapping.count pte) v d (h, t) w e → TearCase g cpu slot index v d h t w e
-case_entry state g v w d e cpu slot index None h t f k at (ea, em, ed) = had_no_entry k at (past g cpu slot index k.tearing g.parts h t ea) em ed
-case_entry state g v w d e cpu slot index (Some pte) h t f k at run =
-    let its = torn_page state g v d cpu slot index pte f k.tearing at in
-    let x = unbind (clear_entry g.parts slot index pte) (λ went. torn_next g cpu slot index k.tearing.mapping.count went.0 went.1) v d (h, t) w e run in
-    let used = is_used_unmapped g.parts slot index pte its.0.tag its.1.below its.1.tagged in
-    let o = seen_clear_entry g.parts slot index pte v d x.answer.0 x.answer.1 x.storage x.disk (can_be_shown state g v d pte.page its.0.tag f its.1) used x.first in
-    case_cleared state g v x.storage w d x.disk e cpu slot index pte x.answer.0 x.answer.1 h t f k at o x.second
+  case_entry : (state : FlatState) (pte : Option Pte) → FitAt state g v d → (k : Tears g cpu slot index) → entry_at g.parts.maps slot index ≡ pte
+      → Seen {A = GuestState × Turn} (teardown_entry g cpu slot index k.tearing.mapping.count pte) v d (h, t) w e → TearCase g cpu slot index v d h t w e
+  case_entry state None f k at (ea, em, ed) = had_no_entry k at (past g cpu slot index k.tearing g.parts h t ea) em ed
+  case_entry state (Some pte) f k at run =
+      let its = torn_page state g v d cpu slot index pte f k.tearing at in
+      let x = unbind (clear_entry g.parts slot index pte) (λ went. torn_next g cpu slot index k.tearing.mapping.count went.0 went.1) v d (h, t) w e run in
+      let used = is_used_unmapped g.parts slot index pte its.0.tag its.1.below its.1.tagged in
+      let o = seen_clear_entry g.parts slot index pte v d x.answer.0 x.answer.1 x.storage x.disk (can_be_shown state g v d pte.page its.0.tag f its.1) used x.first in
+      case_cleared state x.storage x.disk pte x.answer.0 x.answer.1 f k at o x.second
 
--- ---- a mapping of pages of its own
+  -- ---- a mapping of pages of its own
 
-case_torn_off : (g : GuestState) (v n w : StorageView) (d y e : DiskView) (cpu slot index page : ℕ) (parts : Parts) (r : Placed) (h : GuestState) (t : Turn)
-    → (k : Tears g cpu slot index) → HasPage g (Anon slot index) page → TearOutcome g.parts slot index page v d parts r n y
-    → Seen {A = GuestState × Turn} (torn_next g cpu slot index k.tearing.mapping.count parts r) n y (h, t) w e → TearOwnCase g cpu slot index v d h t w e
-case_torn_off g v n w d y e cpu slot index page parts PlaceDone h t k has o (ea, em, ed) =
-    was_torn_off page o.found k has (rw (em, ed) o.back) o.may (rw em o.unused) (subst (λ q. TearsPast g cpu slot index q h t) o.tables (past g cpu slot index k.tearing parts h t ea))
-case_torn_off g v n w d y e cpu slot index page parts PlaceGone h t k has o (ea, em, ed) = absurd o
-case_torn_off g v n w d y e cpu slot index page parts (PlaceAgain why) h t k has (tables, may, misses, disk) (ea, em, ed) =
-    tear_own_missed why k (ap (λ q. q.0) ea ∙ ap (λ q. with_parts g q) tables) (ap (λ q. q.1) ea) (rw (em, ed) may) (rw em misses) (ed ∙ disk)
+  case_torn_off : (n : StorageView) (y : DiskView) (page : ℕ) (parts : Parts) (r : Placed) → (k : Tears g cpu slot index) → HasPage g (Anon slot index) page
+      → TearOutcome g.parts slot index page v d parts r n y → Seen {A = GuestState × Turn} (torn_next g cpu slot index k.tearing.mapping.count parts r) n y (h, t) w e
+      → TearOwnCase g cpu slot index v d h t w e
+  case_torn_off n y page parts PlaceDone k has o (ea, em, ed) =
+      was_torn_off page o.found k has (rw (em, ed) o.back) o.may (rw em o.unused) (subst (λ q. TearsPast g cpu slot index q h t) o.tables (past g cpu slot index k.tearing parts h t ea))
+  case_torn_off n y page parts PlaceGone k has o (ea, em, ed) = absurd o
+  case_torn_off n y page parts (PlaceAgain why) k has (tables, may, misses, disk) (ea, em, ed) =
+      tear_own_missed why k (ap (λ q. q.0) ea ∙ ap (λ q. with_parts g q) tables) (ap (λ q. q.1) ea) (rw (em, ed) may) (rw em misses) (ed ∙ disk)
 
-case_owned : (state : FlatState) (g : GuestState) (v w : StorageView) (d e : DiskView) (cpu slot index page : ℕ) (owner : Option ℕ) (h : GuestState) (t : Turn)
-    → FitAt state g v d → (k : Tears g cpu slot index) → page_of g.parts.cache (Anon slot index) ≡ Some page → IsTag g.parts.cache (Anon slot index)
-    → (info_at g.parts.pages page).owner ≡ owner
-    → Seen {A = GuestState × Turn} (teardown_owned g cpu slot index k.tearing.mapping.count page owner) v d (h, t) w e → TearOwnCase g cpu slot index v d h t w e
-case_owned state g v w d e cpu slot index page (Some owner) h t f k there is locked (ea, em, ed) = tear_waited page owner k there locked (ap (λ q. q.0) ea) (ap (λ q. q.1) ea) em ed
-case_owned state g v w d e cpu slot index page None h t f k there is unlocked run =
-    let x = unbind (tear_page g.parts slot index page) (λ went. torn_next g cpu slot index k.tearing.mapping.count went.0 went.1) v d (h, t) w e run in
-    let o = seen_tear_page g.parts slot index page v d x.answer.0 x.answer.1 x.storage x.disk x.first in
-    case_torn_off g v x.storage w d x.disk e cpu slot index page x.answer.0 x.answer.1 h t k (found_page state g v d page (Anon slot index) f is there unlocked) o x.second
+-- state the flat machine's state, g the guest before, v and w its storage before and after, d and e its disk before and after, cpu the processor, slot the slot of a mapping, index a page of it
+module _ (state : FlatState) (g : GuestState) (v w : StorageView) (d e : DiskView) (cpu slot index : ℕ) where
+  case_owned : (page : ℕ) (owner : Option ℕ) (h : GuestState) (t : Turn) → FitAt state g v d → (k : Tears g cpu slot index) → page_of g.parts.cache (Anon slot index) ≡ Some page
+      → IsTag g.parts.cache (Anon slot index) → (info_at g.parts.pages page).owner ≡ owner
+      → Seen {A = GuestState × Turn} (teardown_owned g cpu slot index k.tearing.mapping.count page owner) v d (h, t) w e → TearOwnCase g cpu slot index v d h t w e
+  case_owned page (Some owner) h t f k there is locked (ea, em, ed) = tear_waited page owner k there locked (ap (λ q. q.0) ea) (ap (λ q. q.1) ea) em ed
+  case_owned page None h t f k there is unlocked run =
+      let x = unbind (tear_page g.parts slot index page) (λ went. torn_next g cpu slot index k.tearing.mapping.count went.0 went.1) v d (h, t) w e run in
+      let o = seen_tear_page g.parts slot index page v d x.answer.0 x.answer.1 x.storage x.disk x.first in
+      case_torn_off g v w d e cpu slot index h t x.storage x.disk page x.answer.0 x.answer.1 k (found_page state g v d page (Anon slot index) f is there unlocked) o x.second
 
-case_own_page : (state : FlatState) (g : GuestState) (v w : StorageView) (d e : DiskView) (cpu slot index : ℕ) (page : Option ℕ) (h : GuestState) (t : Turn)
-    → FitAt state g v d → (k : Tears g cpu slot index) → page_of g.parts.cache (Anon slot index) ≡ page → IsTag g.parts.cache (Anon slot index)
-    → Seen {A = GuestState × Turn} (teardown_page g cpu slot index k.tearing.mapping.count page) v d (h, t) w e → TearOwnCase g cpu slot index v d h t w e
-case_own_page state g v w d e cpu slot index None h t f k none is (ea, em, ed) =
-    had_no_page_of_its k none (past g cpu slot index k.tearing (released g.parts slot index) h t ea) em ed
-case_own_page state g v w d e cpu slot index (Some page) h t f k there is run =
-    case_owned state g v w d e cpu slot index page (info_at g.parts.pages page).owner h t f k there is refl run
+  case_own_page : (page : Option ℕ) (h : GuestState) (t : Turn) → FitAt state g v d → (k : Tears g cpu slot index) → page_of g.parts.cache (Anon slot index) ≡ page
+      → IsTag g.parts.cache (Anon slot index) → Seen {A = GuestState × Turn} (teardown_page g cpu slot index k.tearing.mapping.count page) v d (h, t) w e → TearOwnCase g cpu slot index v d h t w e
+  case_own_page None h t f k none is (ea, em, ed) = had_no_page_of_its k none (past g cpu slot index k.tearing (released g.parts slot index) h t ea) em ed
+  case_own_page (Some page) h t f k there is run = case_owned page (info_at g.parts.pages page).owner h t f k there is refl run
 
--- ---- either of both
+  -- ---- either of both
 
-case_shown : (state : FlatState) (g : GuestState) (v w : StorageView) (d e : DiskView) (cpu slot index : ℕ) (shown : Shown) (h : GuestState) (t : Turn)
-    → FitAt state g v d → (k : Tears g cpu slot index) → k.tearing.mapping.shown ≡ shown
-    → Seen {A = GuestState × Turn} (teardown_shown g cpu slot index k.tearing.mapping.count shown) v d (h, t) w e → TurnCase g cpu v d h t w e
-case_shown state g v w d e cpu slot index (OfFile file first writable) h t f k shown run =
-    was_torn slot index (record { mapping = k.tearing.mapping; at = k.tearing.at; file = file; first = first; writable = writable; shown = shown })
-    (case_entry state g v w d e cpu slot index (entry_at g.parts.maps slot index) h t f k refl run)
-case_shown state g v w d e cpu slot index OfItsOwn h t f k shown run =
-    was_torn_own slot index (record { mapping = k.tearing.mapping; at = k.tearing.at; shown = shown })
-    (case_own_page state g v w d e cpu slot index (page_of g.parts.cache (Anon slot index)) h t f k refl
-    (own-is_tag state g v d f.sizes f.slots slot index k.tearing.mapping k.tearing.at k.tearing.within) run)
+  case_shown : (shown : Shown) (h : GuestState) (t : Turn) → FitAt state g v d → (k : Tears g cpu slot index) → k.tearing.mapping.shown ≡ shown
+      → Seen {A = GuestState × Turn} (teardown_shown g cpu slot index k.tearing.mapping.count shown) v d (h, t) w e → TurnCase g cpu v d h t w e
+  case_shown (OfFile file first writable) h t f k shown run =
+      was_torn slot index (record { mapping = k.tearing.mapping; at = k.tearing.at; file = file; first = first; writable = writable; shown = shown })
+      (case_entry g v w d e cpu slot index h t state (entry_at g.parts.maps slot index) f k refl run)
+  case_shown OfItsOwn h t f k shown run =
+      was_torn_own slot index (record { mapping = k.tearing.mapping; at = k.tearing.at; shown = shown })
+      (case_own_page (page_of g.parts.cache (Anon slot index)) h t f k refl
+      (own-is_tag state g v d f.sizes f.slots slot index k.tearing.mapping k.tearing.at k.tearing.within) run)
 
-pub case_tear : (state : FlatState) (g : GuestState) (v w : StorageView) (d e : DiskView) (cpu slot index : ℕ) (h : GuestState) (t : Turn)
-    → FitAt state g v d → (processor_at g cpu).phase ≡ Teardown slot index → Seen {A = GuestState × Turn} (teardown_turn g cpu slot index) v d (h, t) w e → TurnCase g cpu v d h t w e
-unfolding teardown_turn
-case_tear state g v w d e cpu slot index h t f phase run =
-    let k = f.teardowns.tearing cpu slot index phase in
-    let in_slot : Seen {A = GuestState × Turn} (teardown_shown g cpu slot index k.mapping.count k.mapping.shown) v d (h, t) w e =
-    subst (λ o. Seen {A = GuestState × Turn} (teardown_in g cpu slot index o) v d (h, t) w e) k.at run in
-    case_shown state g v w d e cpu slot index k.mapping.shown h t f (record { phase = phase; tearing = k }) refl in_slot
+  pub case_tear : (h : GuestState) (t : Turn) → FitAt state g v d → (processor_at g cpu).phase ≡ Teardown slot index → Seen {A = GuestState × Turn} (teardown_turn g cpu slot index) v d (h, t) w e
+      → TurnCase g cpu v d h t w e
+  unfolding teardown_turn
+  case_tear h t f phase run =
+      let k = f.teardowns.tearing cpu slot index phase in
+      let in_slot : Seen {A = GuestState × Turn} (teardown_shown g cpu slot index k.mapping.count k.mapping.shown) v d (h, t) w e =
+      subst (λ o. Seen {A = GuestState × Turn} (teardown_in g cpu slot index o) v d (h, t) w e) k.at run in
+      case_shown k.mapping.shown h t f (record { phase = phase; tearing = k }) refl in_slot

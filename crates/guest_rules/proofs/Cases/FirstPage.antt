@@ -32,23 +32,25 @@ found_in test from (suc count) i e = found_next test from count i (test from) re
 abbrev AllFail : (test : ℕ → Bool) → (from count : ℕ) → Type 0
 AllFail test from count = (i : ℕ) → from ≤ i → i < from + count → test i ≡ false
 
--- the first fails, and so do the others
-fail_more : (test : ℕ → Bool) (from count : ℕ) → test from ≡ false → AllFail test (from + 1) count → AllFail test from (suc count)
-fail_more test from count first rest i least most = elim (cases_eq i from) [
-  | inl same ↦ ap test same ∙ first
-  | inr other ↦ rest i (omega (arith, least, other)) (omega (arith, most))
-]
+-- test what is looked for, from where the search begins, count how many numbers it looks at
+module _ (test : ℕ → Bool) (from count : ℕ) where
+  -- the first fails, and so do the others
+  fail_more : test from ≡ false → AllFail test (from + 1) count → AllFail test from (suc count)
+  fail_more first rest i least most = elim (cases_eq i from) [
+    | inl same ↦ ap test same ∙ first
+    | inr other ↦ rest i (omega (arith, least, other)) (omega (arith, most))
+  ]
 
-fail_first : (test : ℕ → Bool) (from count : ℕ) → AllFail test from (suc count) → test from ≡ false
-fail_first test from count all = all from (omega arith) (omega arith)
+  fail_first : AllFail test from (suc count) → test from ≡ false
+  fail_first all = all from (omega arith) (omega arith)
 
-fail_rest : (test : ℕ → Bool) (from count : ℕ) → AllFail test from (suc count) → AllFail test (from + 1) count
-fail_rest test from count all i least most = all i (omega (arith, least)) (omega (arith, most))
+  fail_rest : AllFail test from (suc count) → AllFail test (from + 1) count
+  fail_rest all i least most = all i (omega (arith, least)) (omega (arith, most))
 
-none_next : (test : ℕ → Bool) (from count : ℕ) (b : Bool) → test from ≡ b → (find test (range_with_len (from + 1) count) ≡ None → AllFail test (from + 1) count)
-    → cond b (Some from) (find test (range_with_len (from + 1) count)) ≡ None → AllFail test from (suc count)
-none_next test from count true passes next e = let bad : Some from ≡ None = e in absurd cc
-none_next test from count false fails next e = fail_more test from count fails (next e)
+  none_next : (b : Bool) → test from ≡ b → (find test (range_with_len (from + 1) count) ≡ None → AllFail test (from + 1) count)
+      → cond b (Some from) (find test (range_with_len (from + 1) count)) ≡ None → AllFail test from (suc count)
+  none_next true passes next e = let bad : Some from ≡ None = e in absurd cc
+  none_next false fails next e = fail_more fails (next e)
 
 none_in : (test : ℕ → Bool) (from count : ℕ) → find test (range_with_len from count) ≡ None → AllFail test from count
 none_in test from zero e = λ i least most. absurd (omega (arith, least, most))

@@ -69,45 +69,46 @@ record IsShownAt (g : GuestState) (slot index : ℕ) : Type 0 where
   shown : tag_at g.parts.maps slot index ≡ Some tag
   within : index < MAX_MAPPING_PAGES
 
--- a load or store that isn't refused reaches a page of its mapping
-reached : (state : FlatState) (g : GuestState) (v : StorageView) (d : DiskView) (process number : ℕ) (writes : Bool) (off len slot : ℕ) → FitAt state g v d
-    → find_slot g.parts.maps process number ≡ Some slot
-    → refusal_at g.parts.maps writes off len (find_slot g.parts.maps process number) ≡ None → 1 ≤ len → IsShownAt g slot (off / PAGE)
-reached state g v d process number writes off len slot f found accepted some =
-    let at = found_slot g.parts.maps process number slot found in
-    let accepted' : refusal_at g.parts.maps writes off len (Some slot) ≡ None = ap (λ q. refusal_at g.parts.maps writes off len q) (sym found) ∙ accepted in
-    let room : off + len ≤ PAGE * mapping_pages (slot_at g.parts.maps slot) = (accepted_at g.parts.maps writes slot off len accepted').within in
-    let within : off / PAGE < at.mapping.count = within_pages off len at.mapping.count (rw at.at at room) some in
-    record {
-      tag = tag_of at.mapping.shown slot (off / PAGE);
-      shown = tag_at-place g.parts.maps slot (off / PAGE) at.mapping at.at within;
-      within =
-          omega (arith, within, (f.slots.shown slot at.mapping at.at).0);
-    }
+-- state the flat machine's state, g the guest, v its storage, d its disk
+module _ (state : FlatState) (g : GuestState) (v : StorageView) (d : DiskView) where
+  -- a load or store that isn't refused reaches a page of its mapping
+  reached : (process number : ℕ) (writes : Bool) (off len slot : ℕ) → FitAt state g v d → find_slot g.parts.maps process number ≡ Some slot
+      → refusal_at g.parts.maps writes off len (find_slot g.parts.maps process number) ≡ None → 1 ≤ len → IsShownAt g slot (off / PAGE)
+  reached process number writes off len slot f found accepted some =
+      let at = found_slot g.parts.maps process number slot found in
+      let accepted' : refusal_at g.parts.maps writes off len (Some slot) ≡ None = ap (λ q. refusal_at g.parts.maps writes off len q) (sym found) ∙ accepted in
+      let room : off + len ≤ PAGE * mapping_pages (slot_at g.parts.maps slot) = (accepted_at g.parts.maps writes slot off len accepted').within in
+      let within : off / PAGE < at.mapping.count = within_pages off len at.mapping.count (rw at.at at room) some in
+      record {
+        tag = tag_of at.mapping.shown slot (off / PAGE);
+        shown = tag_at-place g.parts.maps slot (off / PAGE) at.mapping at.at within;
+        within =
+            omega (arith, within, (f.slots.shown slot at.mapping at.at).0);
+      }
 
-pub load_reaches : (state : FlatState) (g : GuestState) (v : StorageView) (d : DiskView) (cpu number off len slot : ℕ) → FitAt state g v d → Starts g cpu (Load number off len)
-    → find_slot g.parts.maps (process_of g.plan cpu) number ≡ Some slot → Reaches g cpu (Load number off len) false slot off
-load_reaches state g v d cpu number off len slot f starts found =
-    let range = command-in_range g.plan cpu (processor_at g cpu).place (Load number off len) f.sizes.range starts.has.command in
-    let k = reached state g v d (process_of g.plan cpu) number false off len slot f found starts.accepted range.1.some in
-    record { starts = starts; maps = (refl, found, refl); tag = k.tag; shown = k.shown; wants = rw found k.shown; within = k.within }
+  pub load_reaches : (cpu number off len slot : ℕ) → FitAt state g v d → Starts g cpu (Load number off len) → find_slot g.parts.maps (process_of g.plan cpu) number ≡ Some slot
+      → Reaches g cpu (Load number off len) false slot off
+  load_reaches cpu number off len slot f starts found =
+      let range = command-in_range g.plan cpu (processor_at g cpu).place (Load number off len) f.sizes.range starts.has.command in
+      let k = reached (process_of g.plan cpu) number false off len slot f found starts.accepted range.1.some in
+      record { starts = starts; maps = (refl, found, refl); tag = k.tag; shown = k.shown; wants = rw found k.shown; within = k.within }
 
-pub store_reaches : (state : FlatState) (g : GuestState) (v : StorageView) (d : DiskView) (cpu number off : ℕ) (bytes : List ℕ) (slot : ℕ) → FitAt state g v d → Starts g cpu (Store number off bytes)
-    → find_slot g.parts.maps (process_of g.plan cpu) number ≡ Some slot → Reaches g cpu (Store number off bytes) true slot off
-store_reaches state g v d cpu number off bytes slot f starts found =
-    let range = command-in_range g.plan cpu (processor_at g cpu).place (Store number off bytes) f.sizes.range starts.has.command in
-    let k = reached state g v d (process_of g.plan cpu) number true off (length bytes) slot f found starts.accepted range.1.some in
-    record { starts = starts; maps = (refl, found, refl); tag = k.tag; shown = k.shown; wants = rw found k.shown; within = k.within }
+  pub store_reaches : (cpu number off : ℕ) (bytes : List ℕ) (slot : ℕ) → FitAt state g v d → Starts g cpu (Store number off bytes) → find_slot g.parts.maps (process_of g.plan cpu) number ≡ Some slot
+      → Reaches g cpu (Store number off bytes) true slot off
+  store_reaches cpu number off bytes slot f starts found =
+      let range = command-in_range g.plan cpu (processor_at g cpu).place (Store number off bytes) f.sizes.range starts.has.command in
+      let k = reached (process_of g.plan cpu) number true off (length bytes) slot f found starts.accepted range.1.some in
+      record { starts = starts; maps = (refl, found, refl); tag = k.tag; shown = k.shown; wants = rw found k.shown; within = k.within }
 
--- the page of the entry that a load or store finds has the place's tag, and is up to date
-pub entry_page : (state : FlatState) (g : GuestState) (v : StorageView) (d : DiskView) (cpu : ℕ) (op : Op) (writes : Bool) (slot off : ℕ) (pte : Pte) → FitAt state g v d
-    → (k : Reaches g cpu op writes slot off) → entry_at g.parts.maps slot (off / PAGE) ≡ Some pte → ShowsPage g k.tag pte.page
-entry_page state g v d cpu op writes slot off pte f k at =
-    let is = f.entries.entry slot (off / PAGE) pte k.within at in
-    let both : Some is.tag ≡ Some k.tag = sym is.mapped ∙ k.shown in
-    let same : is.tag ≡ k.tag = cc in
-    let tagged : (info_at g.parts.pages pte.page).tag ≡ Some k.tag = is.tagged ∙ ap Some same in
-    record { below = tagged-below g.parts.pages pte.page k.tag tagged; tagged = tagged; uptodate = is.uptodate }
+  -- the page of the entry that a load or store finds has the place's tag, and is up to date
+  pub entry_page : (cpu : ℕ) (op : Op) (writes : Bool) (slot off : ℕ) (pte : Pte) → FitAt state g v d → (k : Reaches g cpu op writes slot off) → entry_at g.parts.maps slot (off / PAGE) ≡ Some pte
+      → ShowsPage g k.tag pte.page
+  entry_page cpu op writes slot off pte f k at =
+      let is = f.entries.entry slot (off / PAGE) pte k.within at in
+      let both : Some is.tag ≡ Some k.tag = sym is.mapped ∙ k.shown in
+      let same : is.tag ≡ k.tag = cc in
+      let tagged : (info_at g.parts.pages pte.page).tag ≡ Some k.tag = is.tagged ∙ ap Some same in
+      record { below = tagged-below g.parts.pages pte.page k.tag tagged; tagged = tagged; uptodate = is.uptodate }
 
 fewer : (within : Bool) (live : ℕ) → (if within then (if nat_le MAX_LIVE_MAPPINGS live then Some TooManyMaps else None) else Some OutOfRange) ≡ None → live < MAX_LIVE_MAPPINGS
 fewer within live e = grind (arith, nat_tests)

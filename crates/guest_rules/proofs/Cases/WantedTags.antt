@@ -90,24 +90,25 @@ pub record HasBytes (g : GuestState) (file off len : ℕ) : Type 0 where
   pub file_below : file < length g.parts.cache.files
   pub within : off + len ≤ PAGE * slice_index_or g.parts.cache.files file 0
 
-pub has_bytes-file : (g : GuestState) (v : StorageView) (d : DiskView) (file off len : ℕ) → SizesFit g v d → file_has_bytes g.plan.files file off len ≡ true → HasBytes g file off len
-has_bytes-file g v d file off len f has =
-    let parts = and_parts (nat_lt file (length g.plan.files)) (nat_le (off + len) (PAGE * file_pages g.plan.files file)) has in
-    record { file_below = rw (f.files, length-map g.plan.files (λ plan. plan.pages)) (ltb-true _ _ parts.0); within = rw (f.files, pages_of_file g.plan.files file) (leb-true _ _ parts.1) }
+-- g the guest, v its storage, d its disk
+module _ (g : GuestState) (v : StorageView) (d : DiskView) where
+  pub has_bytes-file : (file off len : ℕ) → SizesFit g v d → file_has_bytes g.plan.files file off len ≡ true → HasBytes g file off len
+  has_bytes-file file off len f has =
+      let parts = and_parts (nat_lt file (length g.plan.files)) (nat_le (off + len) (PAGE * file_pages g.plan.files file)) has in
+      record { file_below = rw (f.files, length-map g.plan.files (λ plan. plan.pages)) (ltb-true _ _ parts.0); within = rw (f.files, pages_of_file g.plan.files file) (leb-true _ _ parts.1) }
 
--- an accepted read or write has its bytes
-pub read-bytes : (g : GuestState) (v : StorageView) (d : DiskView) (process file off len : ℕ) → SizesFit g v d → refusal_in g process (Read file off len) ≡ None → HasBytes g file off len
-read-bytes g v d process file off len f e = has_bytes-file g v d file off len f (accepted_within (file_has_bytes g.plan.files file off len) e)
+  -- an accepted read or write has its bytes
+  pub read-bytes : (process file off len : ℕ) → SizesFit g v d → refusal_in g process (Read file off len) ≡ None → HasBytes g file off len
+  read-bytes process file off len f e = has_bytes-file file off len f (accepted_within (file_has_bytes g.plan.files file off len) e)
 
-pub write-bytes : (g : GuestState) (v : StorageView) (d : DiskView) (process file off : ℕ) (bytes : List ℕ) → SizesFit g v d → refusal_in g process (Write file off bytes) ≡ None
-    → HasBytes g file off (length bytes)
-write-bytes g v d process file off bytes f e = has_bytes-file g v d file off (length bytes) f (accepted_within (file_has_bytes g.plan.files file off (length bytes)) e)
+  pub write-bytes : (process file off : ℕ) (bytes : List ℕ) → SizesFit g v d → refusal_in g process (Write file off bytes) ≡ None → HasBytes g file off (length bytes)
+  write-bytes process file off bytes f e = has_bytes-file file off (length bytes) f (accepted_within (file_has_bytes g.plan.files file off (length bytes)) e)
 
-pub read-piece : (g : GuestState) (v : StorageView) (d : DiskView) (cpu file off len : ℕ) → SizesFit g v d → Has g cpu (Read file off len) → IsPiece off len
-read-piece g v d cpu file off len f has = (command-in_range g.plan cpu (processor_at g cpu).place (Read file off len) f.range has.command).1
+  pub read-piece : (cpu file off len : ℕ) → SizesFit g v d → Has g cpu (Read file off len) → IsPiece off len
+  read-piece cpu file off len f has = (command-in_range g.plan cpu (processor_at g cpu).place (Read file off len) f.range has.command).1
 
-pub write-piece : (g : GuestState) (v : StorageView) (d : DiskView) (cpu file off : ℕ) (bytes : List ℕ) → SizesFit g v d → Has g cpu (Write file off bytes) → IsPiece off (length bytes)
-write-piece g v d cpu file off bytes f has = (command-in_range g.plan cpu (processor_at g cpu).place (Write file off bytes) f.range has.command).1
+  pub write-piece : (cpu file off : ℕ) (bytes : List ℕ) → SizesFit g v d → Has g cpu (Write file off bytes) → IsPiece off (length bytes)
+  write-piece cpu file off bytes f has = (command-in_range g.plan cpu (processor_at g cpu).place (Write file off bytes) f.range has.command).1
 
 page_within : (off len pages : ℕ) → 1 ≤ len → off + len ≤ PAGE * pages → off / PAGE < pages
 page_within off len pages some within = omega arith

@@ -85,28 +85,26 @@ needing_page g cpu op needing has command needs =
     let same : needing ≡ op = cc in
     subst NeedsPage same needs
 
--- as one that fills a page
-pub fills_needing : (g : GuestState) (v : StorageView) (d : DiskView) (cpu : ℕ) (op : Op) (page : ℕ) → Fit g v d → Has g cpu op → (processor_at g cpu).phase ≡ Fill page → NeedsPage op
-fills_needing g v d cpu op page f has phase = let k = (f.locks.filling cpu page phase).1 in needing_page g cpu op k.op has k.command k.needs
+-- g the guest, v its storage, d its disk, cpu the processor, op its command, page the page
+module _ (g : GuestState) (v : StorageView) (d : DiskView) (cpu : ℕ) (op : Op) (page : ℕ) where
+  -- as one that fills a page
+  pub fills_needing : Fit g v d → Has g cpu op → (processor_at g cpu).phase ≡ Fill page → NeedsPage op
+  fills_needing f has phase = let k = (f.locks.filling cpu page phase).1 in needing_page g cpu op k.op has k.command k.needs
 
--- and one that writes a page back to make room
-pages_out_needing : (g : GuestState) (v : StorageView) (d : DiskView) (cpu : ℕ) (op : Op) (page : ℕ) → Fit g v d → Has g cpu op → (processor_at g cpu).phase ≡ AtRoom page → NeedsPage op
-pages_out_needing g v d cpu op page f has phase = let k = f.locks.paging_out cpu page phase in needing_page g cpu op k.op has k.command k.needs
+  -- and one that writes a page back to make room
+  pages_out_needing : Fit g v d → Has g cpu op → (processor_at g cpu).phase ≡ AtRoom page → NeedsPage op
+  pages_out_needing f has phase = let k = f.locks.paging_out cpu page phase in needing_page g cpu op k.op has k.command k.needs
 
--- so neither has a sync
-pub fills_for_other : (g : GuestState) (v : StorageView) (d : DiskView) (cpu : ℕ) (op : Op) (page : ℕ) → Fit g v d → Has g cpu op → (processor_at g cpu).phase ≡ Fill page → (file : ℕ)
-    → op ≡ Sync file → ⊥
-fills_for_other g v d cpu op page f has phase file is = subst NeedsPage is (fills_needing g v d cpu op page f has phase)
+  -- so neither has a sync
+  pub fills_for_other : Fit g v d → Has g cpu op → (processor_at g cpu).phase ≡ Fill page → (file : ℕ) → op ≡ Sync file → ⊥
+  fills_for_other f has phase file is = subst NeedsPage is (fills_needing f has phase)
 
-pub pages_out_for_other : (g : GuestState) (v : StorageView) (d : DiskView) (cpu : ℕ) (op : Op) (page : ℕ) → Fit g v d → Has g cpu op → (processor_at g cpu).phase ≡ AtRoom page → (file : ℕ)
-    → op ≡ Sync file → ⊥
-pages_out_for_other g v d cpu op page f has phase file is = subst NeedsPage is (pages_out_needing g v d cpu op page f has phase)
+  pub pages_out_for_other : Fit g v d → Has g cpu op → (processor_at g cpu).phase ≡ AtRoom page → (file : ℕ) → op ≡ Sync file → ⊥
+  pages_out_for_other f has phase file is = subst NeedsPage is (pages_out_needing f has phase)
 
--- nor an unmap
-pub fills_no_unmap : (g : GuestState) (v : StorageView) (d : DiskView) (cpu : ℕ) (op : Op) (page : ℕ) → Fit g v d → Has g cpu op → (processor_at g cpu).phase ≡ Fill page → (number : ℕ)
-    → op ≡ Unmap number → ⊥
-fills_no_unmap g v d cpu op page f has phase number is = subst NeedsPage is (fills_needing g v d cpu op page f has phase)
+  -- nor an unmap
+  pub fills_no_unmap : Fit g v d → Has g cpu op → (processor_at g cpu).phase ≡ Fill page → (number : ℕ) → op ≡ Unmap number → ⊥
+  fills_no_unmap f has phase number is = subst NeedsPage is (fills_needing f has phase)
 
-pub pages_out_no_unmap : (g : GuestState) (v : StorageView) (d : DiskView) (cpu : ℕ) (op : Op) (page : ℕ) → Fit g v d → Has g cpu op → (processor_at g cpu).phase ≡ AtRoom page → (number : ℕ)
-    → op ≡ Unmap number → ⊥
-pages_out_no_unmap g v d cpu op page f has phase number is = subst NeedsPage is (pages_out_needing g v d cpu op page f has phase)
+  pub pages_out_no_unmap : Fit g v d → Has g cpu op → (processor_at g cpu).phase ≡ AtRoom page → (number : ℕ) → op ≡ Unmap number → ⊥
+  pages_out_no_unmap f has phase number is = subst NeedsPage is (pages_out_needing f has phase)

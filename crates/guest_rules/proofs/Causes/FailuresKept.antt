@@ -60,34 +60,34 @@ paging_more g cpu op v w d e reply n cause few short kept = omega (arith, few, k
 short : (kind : Reply → Bool) (g : GuestState) (v : StorageView) (d : DiskView) → Fit g v d → replies_of kind g.journal < 2 ^ 64 - 1
 short kind g v d f = omega (arith, count_by-le-length (λ (e : Entry). kind e.reply) g.journal, journal-most g v d f, all_commands-bound g.plan f.sizes.range)
 
-kept_finished : (g h : GuestState) (v w : StorageView) (d e : DiskView) (cpu : ℕ) → Fit g v d → v.faults ≤ w.faults → d.faults ≤ e.faults → FailuresFit g v d → HasFinished g v d cpu h w e
-    → FailuresFit h w e
-kept_finished g h v w d e cpu f paging disk failures k =
-    let disk_one : disk_failures h.journal ≡ disk_failures g.journal + one_if (is_disk_failure k.reply) = ap (replies_of is_disk_failure) k.entry ∙ replies-push is_disk_failure g.journal _ in
-    let paging_one : paging_failures h.journal ≡ paging_failures g.journal + one_if (is_paging_failure k.reply) = ap (replies_of is_paging_failure) k.entry
-    ∙ replies-push is_paging_failure g.journal _ in
-    record {
-      disk = omega (arith, disk_one, disk_more g cpu k.op v w d e k.reply (disk_failures g.journal) k.cause failures.disk (short is_disk_failure g v d f) disk);
-      paging = omega (arith, paging_one, paging_more g cpu k.op v w d e k.reply (paging_failures g.journal) k.cause failures.paging (short is_paging_failure g v d f) paging);
-    }
+-- g and h the guest before and after, v and w its storage before and after, d and e its disk before and after
+module _ (g h : GuestState) (v w : StorageView) (d e : DiskView) where
+  kept_finished : (cpu : ℕ) → Fit g v d → v.faults ≤ w.faults → d.faults ≤ e.faults → FailuresFit g v d → HasFinished g v d cpu h w e → FailuresFit h w e
+  kept_finished cpu f paging disk failures k =
+      let disk_one : disk_failures h.journal ≡ disk_failures g.journal + one_if (is_disk_failure k.reply) = ap (replies_of is_disk_failure) k.entry ∙ replies-push is_disk_failure g.journal _ in
+      let paging_one : paging_failures h.journal ≡ paging_failures g.journal + one_if (is_paging_failure k.reply) = ap (replies_of is_paging_failure) k.entry
+      ∙ replies-push is_paging_failure g.journal _ in
+      record {
+        disk = omega (arith, disk_one, disk_more g cpu k.op v w d e k.reply (disk_failures g.journal) k.cause failures.disk (short is_disk_failure g v d f) disk);
+        paging = omega (arith, paging_one, paging_more g cpu k.op v w d e k.reply (paging_failures g.journal) k.cause failures.paging (short is_paging_failure g v d f) paging);
+      }
 
--- an unmap that is answered hasn't failed
-kept_unmapped : (g h : GuestState) (v w : StorageView) (d e : DiskView) (cpu : ℕ) → v.faults ≤ w.faults → d.faults ≤ e.faults → FailuresFit g v d → HasUnmapped g cpu h → FailuresFit h w e
-kept_unmapped g h v w d e cpu paging disk failures k =
-    let disk_same : disk_failures h.journal ≡ disk_failures g.journal + 0 = ap (replies_of is_disk_failure) k.entry ∙ replies-push is_disk_failure g.journal _ in
-    let paging_same : paging_failures h.journal ≡ paging_failures g.journal + 0 = ap (replies_of is_paging_failure) k.entry ∙ replies-push is_paging_failure g.journal _ in
-    record { disk = omega (arith, disk_same, failures.disk, disk); paging = omega (arith, paging_same, failures.paging, paging) }
+  -- an unmap that is answered hasn't failed
+  kept_unmapped : (cpu : ℕ) → v.faults ≤ w.faults → d.faults ≤ e.faults → FailuresFit g v d → HasUnmapped g cpu h → FailuresFit h w e
+  kept_unmapped cpu paging disk failures k =
+      let disk_same : disk_failures h.journal ≡ disk_failures g.journal + 0 = ap (replies_of is_disk_failure) k.entry ∙ replies-push is_disk_failure g.journal _ in
+      let paging_same : paging_failures h.journal ≡ paging_failures g.journal + 0 = ap (replies_of is_paging_failure) k.entry ∙ replies-push is_paging_failure g.journal _ in
+      record { disk = omega (arith, disk_same, failures.disk, disk); paging = omega (arith, paging_same, failures.paging, paging) }
 
-kept_same : (g h : GuestState) (v w : StorageView) (d e : DiskView) → v.faults ≤ w.faults → d.faults ≤ e.faults → FailuresFit g v d → h.journal ≡ g.journal → FailuresFit h w e
-kept_same g h v w d e paging disk failures same =
-    let disk_same : disk_failures h.journal ≡ disk_failures g.journal = ap (replies_of is_disk_failure) same in
-    let paging_same : paging_failures h.journal ≡ paging_failures g.journal = ap (replies_of is_paging_failure) same in
-    record { disk = omega (arith, disk_same, failures.disk, disk); paging = omega (arith, paging_same, failures.paging, paging) }
+  kept_same : v.faults ≤ w.faults → d.faults ≤ e.faults → FailuresFit g v d → h.journal ≡ g.journal → FailuresFit h w e
+  kept_same paging disk failures same =
+      let disk_same : disk_failures h.journal ≡ disk_failures g.journal = ap (replies_of is_disk_failure) same in
+      let paging_same : paging_failures h.journal ≡ paging_failures g.journal = ap (replies_of is_paging_failure) same in
+      record { disk = omega (arith, disk_same, failures.disk, disk); paging = omega (arith, paging_same, failures.paging, paging) }
 
-kept_moved : (g h : GuestState) (v w : StorageView) (d e : DiskView) (cpu : ℕ) → v.faults ≤ w.faults → d.faults ≤ e.faults → FailuresFit g v d
-    → (h.journal ≡ g.journal) ⊎ HasUnmapped g cpu h → FailuresFit h w e
-kept_moved g h v w d e cpu paging disk failures (inl same) = kept_same g h v w d e paging disk failures same
-kept_moved g h v w d e cpu paging disk failures (inr unmapped) = kept_unmapped g h v w d e cpu paging disk failures unmapped
+  kept_moved : (cpu : ℕ) → v.faults ≤ w.faults → d.faults ≤ e.faults → FailuresFit g v d → (h.journal ≡ g.journal) ⊎ HasUnmapped g cpu h → FailuresFit h w e
+  kept_moved cpu paging disk failures (inl same) = kept_same paging disk failures same
+  kept_moved cpu paging disk failures (inr unmapped) = kept_unmapped cpu paging disk failures unmapped
 
 waits_same : (g h : GuestState) (v : StorageView) (cpu : ℕ) → HasToWait g v cpu h → h.journal ≡ g.journal
 waits_same g h v cpu waits = elim waits.tables [

@@ -67,96 +67,87 @@ told_kept parts page found after left told = ap (λ q. is_lost q.contents) told.
 
 -- ---- one walk for both
 
-sync_summary : (g : GuestState) (v w : StorageView) (d e : DiskView) (cpu file index : ℕ) (h : GuestState) (t : Turn) → SyncCase g cpu file index v d h t w e → TurnSummary g h v w
-unfolding with_phase entered
-sync_summary g v w d e cpu file index h t (not_there k none passes ew ee) =
-    record { plan = plan_passed g cpu file index _ h t (has_passed g cpu file index g.parts h t passes); discards = same_pages v w ew }
-sync_summary g v w d e cpu file index h t (sync_waited page owner k locked eh et ew ee) = record { plan = ap (λ q. q.plan) eh; discards = same_pages v w ew }
-sync_summary g v w d e cpu file index h t (sync_missed why k eh et may misses ee) = record { plan = ap (λ q. q.plan) eh; discards = all_pages v w d e may }
-sync_summary g v w d e cpu file index h t (sync_gone page found k has back may lost unused passes) =
-    record { plan = plan_passed g cpu file index _ h t (has_passed g cpu file index (handled g.parts page) h t passes); discards = but_one page v w d e back (unused_kept _ _ unused) }
-sync_summary g v w d e cpu file index h t (was_clean page found k has back may told unchanged clean passes) =
-    record { plan = plan_passed g cpu file index _ h t (has_passed g cpu file index g.parts h t passes); discards = but_one page v w d e back (told_kept _ _ _ _ _ told) }
-sync_summary g v w d e cpu file index h t (was_locked page found k has back may there dirty value eh et) =
-    record { plan = ap (λ q. q.plan) eh; discards = but_one page v w d e back (ap (λ q. is_lost q.contents) value ∙ there) }
-sync_summary g v w d e cpu file index h t (write_missed page why k eh et may misses ee) = record { plan = ap (λ q. q.plan) eh; discards = all_pages v w d e may }
-sync_summary g v w d e cpu file index h t (was_written_back page bytes after k are written told passes) =
-    record { plan = plan_passed g cpu file index _ h t (has_passed g cpu file index after h t passes); discards = but_kept page v w written.keeps (told_kept _ _ _ _ _ told) }
-sync_summary g v w d e cpu file index h t (write_failed page cause after k back told why eh et) =
-    record { plan = ap (λ q. q.plan) eh; discards = but_one page v w d e back (told_kept _ _ _ _ _ told) }
+-- g and h the guest before and after, v and w its storage before and after, d and e its disk before and after, cpu the processor, t the turn
+module _ (g : GuestState) (v w : StorageView) (d e : DiskView) (cpu : ℕ) (h : GuestState) (t : Turn) where
+  sync_summary : (file index : ℕ) → SyncCase g cpu file index v d h t w e → TurnSummary g h v w
+  unfolding with_phase entered
+  sync_summary file index (not_there k none passes ew ee) = record { plan = plan_passed g cpu file index _ h t (has_passed g cpu file index g.parts h t passes); discards = same_pages v w ew }
+  sync_summary file index (sync_waited page owner k locked eh et ew ee) = record { plan = ap (λ q. q.plan) eh; discards = same_pages v w ew }
+  sync_summary file index (sync_missed why k eh et may misses ee) = record { plan = ap (λ q. q.plan) eh; discards = all_pages v w d e may }
+  sync_summary file index (sync_gone page found k has back may lost unused passes) =
+      record { plan = plan_passed g cpu file index _ h t (has_passed g cpu file index (handled g.parts page) h t passes); discards = but_one page v w d e back (unused_kept _ _ unused) }
+  sync_summary file index (was_clean page found k has back may told unchanged clean passes) =
+      record { plan = plan_passed g cpu file index _ h t (has_passed g cpu file index g.parts h t passes); discards = but_one page v w d e back (told_kept _ _ _ _ _ told) }
+  sync_summary file index (was_locked page found k has back may there dirty value eh et) =
+      record { plan = ap (λ q. q.plan) eh; discards = but_one page v w d e back (ap (λ q. is_lost q.contents) value ∙ there) }
+  sync_summary file index (write_missed page why k eh et may misses ee) = record { plan = ap (λ q. q.plan) eh; discards = all_pages v w d e may }
+  sync_summary file index (was_written_back page bytes after k are written told passes) =
+      record { plan = plan_passed g cpu file index _ h t (has_passed g cpu file index after h t passes); discards = but_kept page v w written.keeps (told_kept _ _ _ _ _ told) }
+  sync_summary file index (write_failed page cause after k back told why eh et) = record { plan = ap (λ q. q.plan) eh; discards = but_one page v w d e back (told_kept _ _ _ _ _ told) }
 
-room_summary : (g : GuestState) (v w : StorageView) (d e : DiskView) (cpu : ℕ) (op : Op) (h : GuestState) (t : Turn) → RoomCase g cpu op v d h t w e → TurnSummary g h v w
-unfolding with_phase entered
-room_summary g v w d e cpu op h t (room_gone tag page found k goes back may lost unused eh et) =
-    record { plan = ap (λ q. q.plan) eh; discards = but_one page v w d e back (unused_kept _ _ unused) }
-room_summary g v w d e cpu op h t (was_cleared tag page found k goes back may there unchanged clean unused eh et) =
-    record { plan = ap (λ q. q.plan) eh; discards = but_one page v w d e back (unused_kept _ _ unused) }
-room_summary g v w d e cpu op h t (was_locked_to_go tag page found k goes back may there dirty value eh et) =
-    record { plan = ap (λ q. q.plan) eh; discards = but_one page v w d e back (ap (λ q. is_lost q.contents) value ∙ there) }
-room_summary g v w d e cpu op h t (room_missed why k eh et may misses ee) = record { plan = ap (λ q. q.plan) eh; discards = all_pages v w d e may }
-room_summary g v w d e cpu op h t (room_waited page owner k none first locked eh et ew ee) = record { plan = ap (λ q. q.plan) eh; discards = same_pages v w ew }
-room_summary g v w d e cpu op h t (had_no_page k none unlocked eh et ew ee) = record { plan = ap (λ q. q.plan) eh; discards = same_pages v w ew }
-room_summary g v w d e cpu op h t (page_out_missed tag page why k eh et may misses ee) = record { plan = ap (λ q. q.plan) eh; discards = all_pages v w d e may }
-room_summary g v w d e cpu op h t (was_paged_out tag page bytes after k are written told eh et) =
-    record { plan = ap (λ q. q.plan) eh; discards = but_kept page v w written.keeps (told_kept _ _ _ _ _ told) }
-room_summary g v w d e cpu op h t (page_out_failed tag page cause after k back told why eh et) =
-    record { plan = ap (λ q. q.plan) eh; discards = but_one page v w d e back (told_kept _ _ _ _ _ told) }
+  room_summary : (op : Op) → RoomCase g cpu op v d h t w e → TurnSummary g h v w
+  unfolding with_phase entered
+  room_summary op (room_gone tag page found k goes back may lost unused eh et) = record { plan = ap (λ q. q.plan) eh; discards = but_one page v w d e back (unused_kept _ _ unused) }
+  room_summary op (was_cleared tag page found k goes back may there unchanged clean unused eh et) = record { plan = ap (λ q. q.plan) eh; discards = but_one page v w d e back (unused_kept _ _ unused) }
+  room_summary op (was_locked_to_go tag page found k goes back may there dirty value eh et) =
+      record { plan = ap (λ q. q.plan) eh; discards = but_one page v w d e back (ap (λ q. is_lost q.contents) value ∙ there) }
+  room_summary op (room_missed why k eh et may misses ee) = record { plan = ap (λ q. q.plan) eh; discards = all_pages v w d e may }
+  room_summary op (room_waited page owner k none first locked eh et ew ee) = record { plan = ap (λ q. q.plan) eh; discards = same_pages v w ew }
+  room_summary op (had_no_page k none unlocked eh et ew ee) = record { plan = ap (λ q. q.plan) eh; discards = same_pages v w ew }
+  room_summary op (page_out_missed tag page why k eh et may misses ee) = record { plan = ap (λ q. q.plan) eh; discards = all_pages v w d e may }
+  room_summary op (was_paged_out tag page bytes after k are written told eh et) = record { plan = ap (λ q. q.plan) eh; discards = but_kept page v w written.keeps (told_kept _ _ _ _ _ told) }
+  room_summary op (page_out_failed tag page cause after k back told why eh et) = record { plan = ap (λ q. q.plan) eh; discards = but_one page v w d e back (told_kept _ _ _ _ _ told) }
 
-tear_summary : (g : GuestState) (v w : StorageView) (d e : DiskView) (cpu slot index : ℕ) (h : GuestState) (t : Turn) → TearCase g cpu slot index v d h t w e → TurnSummary g h v w
-tear_summary g v w d e cpu slot index h t (had_no_entry k none passes ew ee) =
-    record { plan = plan_torn_past g cpu slot index g.parts h t (is_past g cpu slot index g.parts h t passes); discards = same_pages v w ew }
-tear_summary g v w d e cpu slot index h t (tear_missed why k eh et may misses ee) = record { plan = ap (λ q. q.plan) eh; discards = all_pages v w d e may }
-tear_summary g v w d e cpu slot index h t (tear_gone tag pte found k entry has back may lost unused passes) = record {
-  plan = plan_torn_past g cpu slot index (handled g.parts pte.page) h t (is_past g cpu slot index (handled g.parts pte.page) h t passes);
-  discards = but_one pte.page v w d e back (unused_kept _ _ unused);
-}
-tear_summary g v w d e cpu slot index h t (was_cleared_at tag pte found after k entry shows back may told passes) =
-    record { plan = plan_torn_past g cpu slot index after h t (is_past g cpu slot index after h t passes); discards = but_one pte.page v w d e back (told_kept _ _ _ _ _ told) }
+  tear_summary : (slot index : ℕ) → TearCase g cpu slot index v d h t w e → TurnSummary g h v w
+  tear_summary slot index (had_no_entry k none passes ew ee) = record { plan = plan_torn_past g cpu slot index g.parts h t (is_past g cpu slot index g.parts h t passes); discards = same_pages v w ew }
+  tear_summary slot index (tear_missed why k eh et may misses ee) = record { plan = ap (λ q. q.plan) eh; discards = all_pages v w d e may }
+  tear_summary slot index (tear_gone tag pte found k entry has back may lost unused passes) = record {
+    plan = plan_torn_past g cpu slot index (handled g.parts pte.page) h t (is_past g cpu slot index (handled g.parts pte.page) h t passes);
+    discards = but_one pte.page v w d e back (unused_kept _ _ unused);
+  }
+  tear_summary slot index (was_cleared_at tag pte found after k entry shows back may told passes) =
+      record { plan = plan_torn_past g cpu slot index after h t (is_past g cpu slot index after h t passes); discards = but_one pte.page v w d e back (told_kept _ _ _ _ _ told) }
 
-tear_own_summary : (g : GuestState) (v w : StorageView) (d e : DiskView) (cpu slot index : ℕ) (h : GuestState) (t : Turn) → TearOwnCase g cpu slot index v d h t w e → TurnSummary g h v w
-tear_own_summary g v w d e cpu slot index h t (had_no_page_of_its k none passes ew ee) =
-    record { plan = plan_torn_past g cpu slot index (released g.parts slot index) h t (is_past g cpu slot index (released g.parts slot index) h t passes); discards = same_pages v w ew }
-tear_own_summary g v w d e cpu slot index h t (tear_waited page owner k found locked eh et ew ee) = record { plan = ap (λ q. q.plan) eh; discards = same_pages v w ew }
-tear_own_summary g v w d e cpu slot index h t (tear_own_missed why k eh et may misses ee) = record { plan = ap (λ q. q.plan) eh; discards = all_pages v w d e may }
-tear_own_summary g v w d e cpu slot index h t (was_torn_off page found k has back may unused passes) = record {
-  plan = let after = released (freed g.parts page) slot index in plan_torn_past g cpu slot index after h t (is_past g cpu slot index after h t passes);
-  discards = but_one page v w d e back (unused_kept _ _ unused);
-}
+  tear_own_summary : (slot index : ℕ) → TearOwnCase g cpu slot index v d h t w e → TurnSummary g h v w
+  tear_own_summary slot index (had_no_page_of_its k none passes ew ee) =
+      record { plan = plan_torn_past g cpu slot index (released g.parts slot index) h t (is_past g cpu slot index (released g.parts slot index) h t passes); discards = same_pages v w ew }
+  tear_own_summary slot index (tear_waited page owner k found locked eh et ew ee) = record { plan = ap (λ q. q.plan) eh; discards = same_pages v w ew }
+  tear_own_summary slot index (tear_own_missed why k eh et may misses ee) = record { plan = ap (λ q. q.plan) eh; discards = all_pages v w d e may }
+  tear_own_summary slot index (was_torn_off page found k has back may unused passes) = record {
+    plan = let after = released (freed g.parts page) slot index in plan_torn_past g cpu slot index after h t (is_past g cpu slot index after h t passes);
+    discards = but_one page v w d e back (unused_kept _ _ unused);
+  }
 
-pub turn_summary : (g : GuestState) (v w : StorageView) (d e : DiskView) (cpu : ℕ) (h : GuestState) (t : Turn) → TurnCase g cpu v d h t w e → TurnSummary g h v w
-unfolding with_phase entered answered
-turn_summary g v w d e cpu h t (was_idle none eh et ew ee) = record { plan = ap (λ q. q.plan) eh; discards = same_pages v w ew }
-turn_summary g v w d e cpu h t (was_refused op refusal has start refused eh et ew ee) = record { plan = ap (λ q. q.plan) eh; discards = same_pages v w ew }
-turn_summary g v w d e cpu h t (was_mapped number file first count writable slot starts free eh et ew ee) = record { plan = ap (λ q. q.plan) eh; discards = same_pages v w ew }
-turn_summary g v w d e cpu h t (was_mapped_own number count slot starts free eh et ew ee) = record { plan = ap (λ q. q.plan) eh; discards = same_pages v w ew }
-turn_summary g v w d e cpu h t (waited op page owner starts its locked eh et ew ee) = record { plan = ap (λ q. q.plan) eh; discards = same_pages v w ew }
-turn_summary g v w d e cpu h t (missed op why has eh et may misses ee) = record { plan = ap (λ q. q.plan) eh; discards = all_pages v w d e may }
-turn_summary g v w d e cpu h t (missed_rehinted why op tag page found after starts wants has eh et back may told misses ee) =
-    record { plan = ap (λ q. q.plan) eh; discards = but_one page v w d e back (told_kept _ _ _ _ _ told) }
-turn_summary g v w d e cpu h t (was_begun op tag page rest found starts wants none free eh et back may value) =
-    record { plan = ap (λ q. q.plan) eh; discards = but_one page v w d e back (ap (λ q. is_lost q.contents) value ∙ stable_kept found.contents) }
-turn_summary g v w d e cpu h t (was_gone op tag page found starts wants has eh et back may lost unused quiet) =
-    record { plan = ap (λ q. q.plan) eh; discards = but_one page v w d e back (unused_kept _ _ unused) }
-turn_summary g v w d e cpu h t (was_read file off len page found all after starts has back may are told eh et) =
-    record { plan = ap (λ q. q.plan) eh; discards = but_one page v w d e back (told_kept _ _ _ _ _ told) }
-turn_summary g v w d e cpu h t (was_written file off bytes page found all starts has back may are value eh et) =
-    record { plan = ap (λ q. q.plan) eh; discards = but_one page v w d e back (ap (λ q. is_lost q.contents) value) }
-turn_summary g v w d e cpu h t (touch_failed op tag page found after needs starts wants has back may told eh et risen) =
-    record { plan = ap (λ q. q.plan) eh; discards = but_one page v w d e back (told_kept _ _ _ _ _ told) }
-turn_summary g v w d e cpu h t (was_resolved op tag writes slot off page found after starts wants maps has can back may told eh et) =
-    record { plan = ap (λ q. q.plan) eh; discards = but_one page v w d e back (told_kept _ _ _ _ _ told) }
-turn_summary g v w d e cpu h t (was_loaded number off len slot page writable all starts at_slot at are eh et may) = record { plan = ap (λ q. q.plan) eh; discards = all_pages v w d e may }
-turn_summary g v w d e cpu h t (was_stored number off bytes slot page found all starts at_slot at back may are value eh et) =
-    record { plan = ap (λ q. q.plan) eh; discards = but_one page v w d e back (ap (λ q. is_lost q.contents) value) }
-turn_summary g v w d e cpu h t (was_pinned pins number index slot tag page found after starts wants at has back may told eh et) =
-    record { plan = ap (λ q. q.plan) eh; discards = but_one page v w d e back (told_kept _ _ _ _ _ told) }
-turn_summary g v w d e cpu h t (entry_failed op writes slot off starts maps eh et may risen) = record { plan = ap (λ q. q.plan) eh; discards = all_pages v w d e may }
-turn_summary g v w d e cpu h t (fill_failed op page cause has phase eh et back unused why) =
-    record { plan = ap (λ q. q.plan) eh; discards = but_one page v w d e back (unused_kept _ _ unused) }
-turn_summary g v w d e cpu h t (was_filled op page tag has phase tagged eh et back value) =
-    record { plan = ap (λ q. q.plan) eh; discards = but_one page v w d e back (ap (λ q. is_lost q.contents) value) }
-turn_summary g v w d e cpu h t (was_sync file index k) = sync_summary g v w d e cpu file index h t k
-turn_summary g v w d e cpu h t (was_room op k) = room_summary g v w d e cpu op h t k
-turn_summary g v w d e cpu h t (was_unmapped number slot starts found eh et ew ee) = record { plan = ap (λ q. q.plan) eh; discards = same_pages v w ew }
-turn_summary g v w d e cpu h t (was_torn slot index its k) = tear_summary g v w d e cpu slot index h t k
-turn_summary g v w d e cpu h t (was_torn_own slot index its k) = tear_own_summary g v w d e cpu slot index h t k
+  pub turn_summary : TurnCase g cpu v d h t w e → TurnSummary g h v w
+  unfolding with_phase entered answered
+  turn_summary (was_idle none eh et ew ee) = record { plan = ap (λ q. q.plan) eh; discards = same_pages v w ew }
+  turn_summary (was_refused op refusal has start refused eh et ew ee) = record { plan = ap (λ q. q.plan) eh; discards = same_pages v w ew }
+  turn_summary (was_mapped number file first count writable slot starts free eh et ew ee) = record { plan = ap (λ q. q.plan) eh; discards = same_pages v w ew }
+  turn_summary (was_mapped_own number count slot starts free eh et ew ee) = record { plan = ap (λ q. q.plan) eh; discards = same_pages v w ew }
+  turn_summary (waited op page owner starts its locked eh et ew ee) = record { plan = ap (λ q. q.plan) eh; discards = same_pages v w ew }
+  turn_summary (missed op why has eh et may misses ee) = record { plan = ap (λ q. q.plan) eh; discards = all_pages v w d e may }
+  turn_summary (missed_rehinted why op tag page found after starts wants has eh et back may told misses ee) =
+      record { plan = ap (λ q. q.plan) eh; discards = but_one page v w d e back (told_kept _ _ _ _ _ told) }
+  turn_summary (was_begun op tag page rest found starts wants none free eh et back may value) =
+      record { plan = ap (λ q. q.plan) eh; discards = but_one page v w d e back (ap (λ q. is_lost q.contents) value ∙ stable_kept found.contents) }
+  turn_summary (was_gone op tag page found starts wants has eh et back may lost unused quiet) = record { plan = ap (λ q. q.plan) eh; discards = but_one page v w d e back (unused_kept _ _ unused) }
+  turn_summary (was_read file off len page found all after starts has back may are told eh et) = record { plan = ap (λ q. q.plan) eh; discards = but_one page v w d e back (told_kept _ _ _ _ _ told) }
+  turn_summary (was_written file off bytes page found all starts has back may are value eh et) =
+      record { plan = ap (λ q. q.plan) eh; discards = but_one page v w d e back (ap (λ q. is_lost q.contents) value) }
+  turn_summary (touch_failed op tag page found after needs starts wants has back may told eh et risen) =
+      record { plan = ap (λ q. q.plan) eh; discards = but_one page v w d e back (told_kept _ _ _ _ _ told) }
+  turn_summary (was_resolved op tag writes slot off page found after starts wants maps has can back may told eh et) =
+      record { plan = ap (λ q. q.plan) eh; discards = but_one page v w d e back (told_kept _ _ _ _ _ told) }
+  turn_summary (was_loaded number off len slot page writable all starts at_slot at are eh et may) = record { plan = ap (λ q. q.plan) eh; discards = all_pages v w d e may }
+  turn_summary (was_stored number off bytes slot page found all starts at_slot at back may are value eh et) =
+      record { plan = ap (λ q. q.plan) eh; discards = but_one page v w d e back (ap (λ q. is_lost q.contents) value) }
+  turn_summary (was_pinned pins number index slot tag page found after starts wants at has back may told eh et) =
+      record { plan = ap (λ q. q.plan) eh; discards = but_one page v w d e back (told_kept _ _ _ _ _ told) }
+  turn_summary (entry_failed op writes slot off starts maps eh et may risen) = record { plan = ap (λ q. q.plan) eh; discards = all_pages v w d e may }
+  turn_summary (fill_failed op page cause has phase eh et back unused why) = record { plan = ap (λ q. q.plan) eh; discards = but_one page v w d e back (unused_kept _ _ unused) }
+  turn_summary (was_filled op page tag has phase tagged eh et back value) = record { plan = ap (λ q. q.plan) eh; discards = but_one page v w d e back (ap (λ q. is_lost q.contents) value) }
+  turn_summary (was_sync file index k) = sync_summary file index k
+  turn_summary (was_room op k) = room_summary op k
+  turn_summary (was_unmapped number slot starts found eh et ew ee) = record { plan = ap (λ q. q.plan) eh; discards = same_pages v w ew }
+  turn_summary (was_torn slot index its k) = tear_summary slot index k
+  turn_summary (was_torn_own slot index its k) = tear_own_summary slot index k

@@ -77,66 +77,65 @@ sync_accepted g v d cpu file index f has within =
 no_unmap : (file number : ℕ) → Sync file ≡ Unmap number → ⊥
 no_unmap file number is = cc is
 
-passed_causes : (g : GuestState) (v w : StorageView) (d e : DiskView) (cpu file index : ℕ) (after : Parts) (h : GuestState) (t : Turn) → Fit g v d → PassesPage g cpu file index after w e
-    → HasPassed g cpu file index after h t → AnswerCause g v d cpu t h w e
-passed_causes g v w d e cpu file index after h t f k (goes_on more eh et) =
-    rw et (
-      moved_phase g cpu (Sync file) after (AtSync (index + 1)) h k.has eh,
-      passes_page g w e cpu file index after h k more eh,
-      syncs_on g h v w d e cpu file after (AtSync (index + 1)) f k.has eh tt,
-      moves_on g h cpu (Sync file) after (AtSync (index + 1)) k.has (no_unmap file) eh tt,
-    )
-passed_causes g v w d e cpu file index after h t f k (is_done last eh et) =
-    rw et (finished g v w d e cpu (Sync file) after Done h k.has eh (sync_accepted g v d cpu file index f k.has k.within) (last_page g w e cpu file index after k last))
+-- g the guest before, w its storage after, e its disk after, cpu the processor, file the file, index a page of it
+module _ (g : GuestState) (w : StorageView) (e : DiskView) (cpu file index : ℕ) where
+  passed_causes : (v : StorageView) (d : DiskView) (after : Parts) (h : GuestState) (t : Turn) → Fit g v d → PassesPage g cpu file index after w e → HasPassed g cpu file index after h t
+      → AnswerCause g v d cpu t h w e
+  passed_causes v d after h t f k (goes_on more eh et) =
+      rw et (
+        moved_phase g cpu (Sync file) after (AtSync (index + 1)) h k.has eh,
+        passes_page g w e cpu file index after h k more eh,
+        syncs_on g h v w d e cpu file after (AtSync (index + 1)) f k.has eh tt,
+        moves_on g h cpu (Sync file) after (AtSync (index + 1)) k.has (no_unmap file) eh tt,
+      )
+  passed_causes v d after h t f k (is_done last eh et) =
+      rw et (finished g v w d e cpu (Sync file) after Done h k.has eh (sync_accepted g v d cpu file index f k.has k.within) (last_page g w e cpu file index after k last))
 
--- a page that was found dirty is locked by the processor
-locks_page : (g : GuestState) (w : StorageView) (e : DiskView) (cpu file index page : ℕ) (changed : Bool) (h : GuestState) → Syncs g cpu file index → HasPage g (File file index) page
-    → (info_at (with_change g.parts page changed).pages page).dirty ≡ true → h ≡ with_phase (with_parts g (locked (with_change g.parts page changed) page cpu)) cpu (SyncWrite index page)
-    → SyncMoves g cpu h w e
-unfolding with_phase
-locks_page g w e cpu file index page changed h k has dirty eh =
-    sync_moves g cpu file h w e (SyncWrite index page) k.has (phase_after g cpu (Sync file) after (SyncWrite index page) h k.has eh) (
-      looks-looking g cpu index k.looks,
-      sym (looks-index g cpu index k.looks),
+  -- a page that was found dirty is locked by the processor
+  locks_page : (page : ℕ) (changed : Bool) (h : GuestState) → Syncs g cpu file index → HasPage g (File file index) page → (info_at (with_change g.parts page changed).pages page).dirty ≡ true
+      → h ≡ with_phase (with_parts g (locked (with_change g.parts page changed) page cpu)) cpu (SyncWrite index page) → SyncMoves g cpu h w e
+  unfolding with_phase
+  locks_page page changed h k has dirty eh =
+      sync_moves g cpu file h w e (SyncWrite index page) k.has (phase_after g cpu (Sync file) after (SyncWrite index page) h k.has eh) (
+        looks-looking g cpu index k.looks,
+        sym (looks-index g cpu index k.looks),
+        record {
+          tagged = ap (λ (i : PageInfo). i.tag) here ∙ ap (λ (i : PageInfo). i.tag) first.here ∙ (is_changed (info_at g.parts.pages page) changed).tag ∙ has.tagged;
+          dirty = ap (λ (i : PageInfo). i.dirty) here ∙ dirty;
+          owner = ap (λ (i : PageInfo). i.owner) here;
+        },
+      )
+    where
+      middle : Parts
+      middle = with_change g.parts page changed
+
+      after : Parts
+      after = locked middle page cpu
+
+      first : InfoChange g.parts.pages middle.pages page (changed_info changed (info_at g.parts.pages page))
+      first = change-changed g.parts page changed has.below
+
+      here : info_at h.parts.pages page ≡ locked_info cpu (info_at middle.pages page)
+      here = ap (λ (q : GuestState). info_at q.parts.pages page) eh ∙ (change-locked middle page cpu (rw first.size has.below)).here
+
+  look_passes : (after : Parts) → Syncs g cpu file index → SyncedAt after w e (File file index) → PassesPage g cpu file index after w e
+  look_passes after k synced = record { has = k.has; within = k.within; here = looks-index g cpu index k.looks; synced = synced }
+
+  -- the page that was written back is the one that the processor has locked
+  written_passes : (v : StorageView) (d : DiskView) (page : ℕ) (bytes : List ℕ) (after : Parts) → Fit g v d → WritesBack g cpu file index page → (v.values page).contents ≡ Bytes bytes
+      → WrittenBack page (File file index) g.parts.cache bytes v d w e → IsRehinted (cleaned g.parts page) page (v.values page) after (w.values page) → PassesPage g cpu file index after w e
+  written_passes v d page bytes after f k are written told =
+      let its = f.locks.writing cpu index page k.phase in
+      let both : Some (Sync its.file) ≡ Some (Sync file) = sym its.syncing.command ∙ k.has.command in
+      let same : its.file ≡ file = cc in
       record {
-        tagged = ap (λ (i : PageInfo). i.tag) here ∙ ap (λ (i : PageInfo). i.tag) first.here ∙ (is_changed (info_at g.parts.pages page) changed).tag ∙ has.tagged;
-        dirty = ap (λ (i : PageInfo). i.dirty) here ∙ dirty;
-        owner = ap (λ (i : PageInfo). i.owner) here;
-      },
-    )
-  where
-    middle : Parts
-    middle = with_change g.parts page changed
-
-    after : Parts
-    after = locked middle page cpu
-
-    first : InfoChange g.parts.pages middle.pages page (changed_info changed (info_at g.parts.pages page))
-    first = change-changed g.parts page changed has.below
-
-    here : info_at h.parts.pages page ≡ locked_info cpu (info_at middle.pages page)
-    here = ap (λ (q : GuestState). info_at q.parts.pages page) eh ∙ (change-locked middle page cpu (rw first.size has.below)).here
-
-look_passes : (g : GuestState) (w : StorageView) (e : DiskView) (cpu file index : ℕ) (after : Parts) → Syncs g cpu file index → SyncedAt after w e (File file index)
-    → PassesPage g cpu file index after w e
-look_passes g w e cpu file index after k synced = record { has = k.has; within = k.within; here = looks-index g cpu index k.looks; synced = synced }
-
--- the page that was written back is the one that the processor has locked
-written_passes : (g : GuestState) (v w : StorageView) (d e : DiskView) (cpu file index page : ℕ) (bytes : List ℕ) (after : Parts) → Fit g v d → WritesBack g cpu file index page
-    → (v.values page).contents ≡ Bytes bytes
-    → WrittenBack page (File file index) g.parts.cache bytes v d w e → IsRehinted (cleaned g.parts page) page (v.values page) after (w.values page) → PassesPage g cpu file index after w e
-written_passes g v w d e cpu file index page bytes after f k are written told =
-    let its = f.locks.writing cpu index page k.phase in
-    let both : Some (Sync its.file) ≡ Some (Sync file) = sym its.syncing.command ∙ k.has.command in
-    let same : its.file ≡ file = cc in
-    record {
-      has = k.has;
-      within = subst (λ n. index < file_pages g.plan.files n) same its.syncing.within;
-      here = ap index_of k.phase;
-      synced = subst (λ n. SyncedAt after w e (File n index)) same
-          (synced_written g v w d e cpu page (File its.file index) bytes after f (writing-has g cpu index page its) are
-          (subst (λ n. WrittenBack page (File n index) g.parts.cache bytes v d w e) (sym same) written) told);
-    }
+        has = k.has;
+        within = subst (λ n. index < file_pages g.plan.files n) same its.syncing.within;
+        here = ap index_of k.phase;
+        synced = subst (λ n. SyncedAt after w e (File n index)) same
+            (synced_written g v w d e cpu page (File its.file index) bytes after f (writing-has g cpu index page its) are
+            (subst (λ n. WrittenBack page (File n index) g.parts.cache bytes v d w e) (sym same) written) told);
+      }
 
 -- a sync needs no page of its own
 sync_needs_none : (g : GuestState) (cpu file : ℕ) (op : Op) → Has g cpu (Sync file) → NeedsFreePage g cpu op → ⊥
@@ -148,7 +147,7 @@ sync_needs_none g cpu file op has needs =
 pub sync_causes : (g : GuestState) (v w : StorageView) (d e : DiskView) (cpu file index : ℕ) (h : GuestState) (t : Turn) → Fit g v d → SyncCase g cpu file index v d h t w e
     → AnswerCause g v d cpu t h w e
 sync_causes g v w d e cpu file index h t f (not_there k none passes ew ee) =
-    passed_causes g v w d e cpu file index g.parts h t f (look_passes g w e cpu file index g.parts k (synced_none g.parts w e (File file index) none)) (has_passed g cpu file index g.parts h t passes)
+    passed_causes g w e cpu file index v d g.parts h t f (look_passes g w e cpu file index g.parts k (synced_none g.parts w e (File file index) none)) (has_passed g cpu file index g.parts h t passes)
 sync_causes g v w d e cpu file index h t f (sync_waited page owner k locked eh et ew ee) =
     rw et (
       eh,
@@ -164,10 +163,10 @@ sync_causes g v w d e cpu file index h t f (sync_waited page owner k locked eh e
 sync_causes g v w d e cpu file index h t f (sync_missed why k eh et may misses ee) = rw et (record { tables = inl eh; command = (Sync file, k.has.command) }, ee, misses.risen)
 sync_causes g v w d e cpu file index h t f (sync_gone page found k has back may lost unused passes) =
     let after = handled g.parts page in
-    passed_causes g v w d e cpu file index after h t f (look_passes g w e cpu file index after k
+    passed_causes g w e cpu file index v d after h t f (look_passes g w e cpu file index after k
     (synced_none after w e (File file index) (page_of-handled g.parts page (File file index) has.tagged))) (has_passed g cpu file index after h t passes)
 sync_causes g v w d e cpu file index h t f (was_clean page found k has back may told unchanged clean passes) =
-    passed_causes g v w d e cpu file index g.parts h t f
+    passed_causes g w e cpu file index v d g.parts h t f
     (look_passes g w e cpu file index g.parts k (synced_clean (flat_of g.plan g.journal) g v w d e page (File file index) found f has back may told unchanged clean))
     (has_passed g cpu file index g.parts h t passes)
 sync_causes g v w d e cpu file index h t f (was_locked page found k has back may there dirty value eh et) =
@@ -179,6 +178,6 @@ sync_causes g v w d e cpu file index h t f (was_locked page found k has back may
     )
 sync_causes g v w d e cpu file index h t f (write_missed page why k eh et may misses ee) = rw et (record { tables = inl eh; command = (Sync file, k.has.command) }, ee, misses.risen)
 sync_causes g v w d e cpu file index h t f (was_written_back page bytes after k are written told passes) =
-    passed_causes g v w d e cpu file index after h t f (written_passes g v w d e cpu file index page bytes after f k are written told) (has_passed g cpu file index after h t passes)
+    passed_causes g w e cpu file index v d after h t f (written_passes g w e cpu file index v d page bytes after f k are written told) (has_passed g cpu file index after h t passes)
 sync_causes g v w d e cpu file index h t f (write_failed page cause after k back told why eh et) =
     rw et (finished g v w d e cpu (Sync file) after (Fail cause) h k.has eh (fill_cause g v w d e cpu (Sync file) cause why) tt)

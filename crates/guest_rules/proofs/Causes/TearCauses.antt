@@ -80,73 +80,74 @@ unmap_causes g v w d e cpu number slot h t f starts found eh et =
 tearing_within : (g : GuestState) (cpu slot index : ℕ) → Tears g cpu slot index → index < mapping_pages (slot_at g.parts.maps slot)
 tearing_within g cpu slot index k = rw k.tearing.at k.tearing.within
 
-has_torn : (g h : GuestState) (cpu slot index : ℕ) (maps : MapsView) (after : Parts) → Tears g cpu slot index → IsTakenOff g slot index after → entry_at maps slot index ≡ None
-    → h.parts.maps ≡ maps → h.parts.cache ≡ after.cache → HasTorn g cpu slot index h
-has_torn g h cpu slot index maps after k taken none same cache = record {
-  phase = k.phase;
-  cleared = ap (λ m. entry_at m slot index) same ∙ none;
-  untagged = subst (λ (c : CacheView). IsUntagged c slot index) (sym cache) taken.untagged;
-}
+-- g and h the guest before and after, cpu the processor, slot the slot of a mapping, index a page of it, after the tables after
+module _ (g h : GuestState) (cpu slot index : ℕ) (after : Parts) where
+  has_torn : (maps : MapsView) → Tears g cpu slot index → IsTakenOff g slot index after → entry_at maps slot index ≡ None → h.parts.maps ≡ maps → h.parts.cache ≡ after.cache
+      → HasTorn g cpu slot index h
+  has_torn maps k taken none same cache = record {
+    phase = k.phase;
+    cleared = ap (λ m. entry_at m slot index) same ∙ none;
+    untagged = subst (λ (c : CacheView). IsUntagged c slot index) (sym cache) taken.untagged;
+  }
 
--- the teardown goes on
-tears_next : (g h : GuestState) (v w : StorageView) (d e : DiskView) (cpu slot index : ℕ) (after : Parts) → Tears g cpu slot index → IsTakenOff g slot index after
-    → index + 1 < mapping_pages (slot_at g.parts.maps slot) → h ≡ with_phase (with_parts g after) cpu (Teardown slot (index + 1)) → AnswerCause g v d cpu Moved h w e
-unfolding with_phase
-tears_next g h v w d e cpu slot index after k taken more eh = (
-  moved_phase g cpu op after (Teardown slot (index + 1)) h has eh,
-  others_move g cpu op h w e has (not_sync k.tearing.number),
-  no_room g h w e cpu (Teardown slot index) (Teardown slot (index + 1)) k.phase phase tt tt,
-  record {
-    leads = λ number command.
-        subst (λ p. TearLeads g cpu p h) (sym k.phase)
-        (phase, more, has_torn g h cpu slot index after.maps after k taken taken.cleared (ap (λ (q : GuestState). q.parts.maps) eh) (ap (λ (q : GuestState). q.parts.cache) eh));
-    only = λ other i at. (k.tearing.number, k.tearing.command);
-  },
-)
-  where
-    op : Op
-    op = Unmap k.tearing.number
-
-    has : Has g cpu (Unmap k.tearing.number)
-    has = tearing_has g cpu slot index k
-
-    phase : (processor_at h cpu).phase ≡ Teardown slot (index + 1)
-    phase = phase_after g cpu (Unmap k.tearing.number) after (Teardown slot (index + 1)) h has eh
-
--- it is done
-is_torn_down : (g h : GuestState) (cpu slot index : ℕ) (after : Parts) → Tears g cpu slot index → IsTakenOff g slot index after → mapping_pages (slot_at g.parts.maps slot) ≤ index + 1
-    → h ≡ next_command (with_parts g (record after { maps = freed_slot after.maps slot })) cpu → HasTornDown g cpu h
-unfolding next_command
-is_torn_down g h cpu slot index after k taken last eh =
-    let maps = ap (λ (q : GuestState). q.parts.maps) eh in
-    let below : slot < length after.maps.slots = rw taken.slots (slot-below g.parts.maps slot k.tearing.mapping k.tearing.at) in
+  -- the teardown goes on
+  tears_next : (v w : StorageView) (d e : DiskView) → Tears g cpu slot index → IsTakenOff g slot index after → index + 1 < mapping_pages (slot_at g.parts.maps slot)
+      → h ≡ with_phase (with_parts g after) cpu (Teardown slot (index + 1)) → AnswerCause g v d cpu Moved h w e
+  unfolding with_phase
+  tears_next v w d e k taken more eh = (
+    moved_phase g cpu op after (Teardown slot (index + 1)) h has eh,
+    others_move g cpu op h w e has (not_sync k.tearing.number),
+    no_room g h w e cpu (Teardown slot index) (Teardown slot (index + 1)) k.phase phase tt tt,
     record {
-      slot = slot;
-      index = index;
-      torn = has_torn g h cpu slot index (freed_slot after.maps slot) after k taken
-          (ap (λ entries. get_or entries (place_at slot index) None) (entries-freed_slot after.maps slot) ∙ taken.cleared) maps (ap (λ (q : GuestState). q.parts.cache) eh);
-      last = last_index index (mapping_pages (slot_at g.parts.maps slot)) (tearing_within g cpu slot index k) last;
-      free = ap (λ m. slot_at m slot) maps ∙ slot_at-freed_slot_same after.maps slot below;
-      journal = ap (λ (q : GuestState). q.journal) eh;
-      next = ap (λ q. processor_at q cpu) eh ∙ processor-next_command (with_parts g (record after { maps = freed_slot after.maps slot })) cpu k.tearing.cpu_below;
-    }
+      leads = λ number command.
+          subst (λ p. TearLeads g cpu p h) (sym k.phase)
+          (phase, more, has_torn after.maps k taken taken.cleared (ap (λ (q : GuestState). q.parts.maps) eh) (ap (λ (q : GuestState). q.parts.cache) eh));
+      only = λ other i at. (k.tearing.number, k.tearing.command);
+    },
+  )
+    where
+      op : Op
+      op = Unmap k.tearing.number
 
-torn_past_causes : (g : GuestState) (v w : StorageView) (d e : DiskView) (cpu slot index : ℕ) (after : Parts) (h : GuestState) (t : Turn) → Tears g cpu slot index
-    → IsTakenOff g slot index after → IsPast g cpu slot index after h t → AnswerCause g v d cpu t h w e
-torn_past_causes g v w d e cpu slot index after h t k taken (tears_on more eh et) = rw et (tears_next g h v w d e cpu slot index after k taken more eh)
-torn_past_causes g v w d e cpu slot index after h t k taken (has_ended last eh et) = rw et (inr (is_torn_down g h cpu slot index after k taken last eh))
+      has : Has g cpu (Unmap k.tearing.number)
+      has = tearing_has g cpu slot index k
+
+      phase : (processor_at h cpu).phase ≡ Teardown slot (index + 1)
+      phase = phase_after g cpu (Unmap k.tearing.number) after (Teardown slot (index + 1)) h has eh
+
+  -- it is done
+  is_torn_down : Tears g cpu slot index → IsTakenOff g slot index after → mapping_pages (slot_at g.parts.maps slot) ≤ index + 1
+      → h ≡ next_command (with_parts g (record after { maps = freed_slot after.maps slot })) cpu → HasTornDown g cpu h
+  unfolding next_command
+  is_torn_down k taken last eh =
+      let maps = ap (λ (q : GuestState). q.parts.maps) eh in
+      let below : slot < length after.maps.slots = rw taken.slots (slot-below g.parts.maps slot k.tearing.mapping k.tearing.at) in
+      record {
+        slot = slot;
+        index = index;
+        torn = has_torn (freed_slot after.maps slot) k taken
+            (ap (λ entries. get_or entries (place_at slot index) None) (entries-freed_slot after.maps slot) ∙ taken.cleared) maps (ap (λ (q : GuestState). q.parts.cache) eh);
+        last = last_index index (mapping_pages (slot_at g.parts.maps slot)) (tearing_within g cpu slot index k) last;
+        free = ap (λ m. slot_at m slot) maps ∙ slot_at-freed_slot_same after.maps slot below;
+        journal = ap (λ (q : GuestState). q.journal) eh;
+        next = ap (λ q. processor_at q cpu) eh ∙ processor-next_command (with_parts g (record after { maps = freed_slot after.maps slot })) cpu k.tearing.cpu_below;
+      }
+
+  torn_past_causes : (v w : StorageView) (d e : DiskView) (t : Turn) → Tears g cpu slot index → IsTakenOff g slot index after → IsPast g cpu slot index after h t → AnswerCause g v d cpu t h w e
+  torn_past_causes v w d e t k taken (tears_on more eh et) = rw et (tears_next v w d e k taken more eh)
+  torn_past_causes v w d e t k taken (has_ended last eh et) = rw et (inr (is_torn_down k taken last eh))
 
 pub tear_causes : (g : GuestState) (v w : StorageView) (d e : DiskView) (cpu slot index : ℕ) (h : GuestState) (t : Turn) → Fit g v d → TearsFile g slot
     → TearCase g cpu slot index v d h t w e → AnswerCause g v d cpu t h w e
 tear_causes g v w d e cpu slot index h t f its (had_no_entry k none passes ew ee) =
-    torn_past_causes g v w d e cpu slot index g.parts h t k (taken-none g v d cpu slot index f its k none) (is_past g cpu slot index g.parts h t passes)
+    torn_past_causes g h cpu slot index g.parts v w d e t k (taken-none g v d cpu slot index f its k none) (is_past g cpu slot index g.parts h t passes)
 tear_causes g v w d e cpu slot index h t f its (tear_missed why k eh et may misses ee) =
     rw et (record { tables = inl eh; command = (Unmap k.tearing.number, k.tearing.command) }, ee, misses.risen)
 tear_causes g v w d e cpu slot index h t f its (tear_gone tag pte found k entry has back may lost unused passes) =
     let after = handled g.parts pte.page in
-    torn_past_causes g v w d e cpu slot index after h t k (taken-handled g v w d e cpu slot index tag pte found f its k entry has back may lost unused) (is_past g cpu slot index after h t passes)
+    torn_past_causes g h cpu slot index after v w d e t k (taken-handled g v w d e cpu slot index tag pte found f its k entry has back may lost unused) (is_past g cpu slot index after h t passes)
 tear_causes g v w d e cpu slot index h t f its (was_cleared_at tag pte found after k entry shows back may told passes) =
-    torn_past_causes g v w d e cpu slot index after h t k (taken-cleared g v w d e cpu slot index tag pte found after f its k entry shows back may told) (is_past g cpu slot index after h t passes)
+    torn_past_causes g h cpu slot index after v w d e t k (taken-cleared g v w d e cpu slot index tag pte found after f its k entry shows back may told) (is_past g cpu slot index after h t passes)
 
 -- ---- a page was taken off a mapping of pages of its own
 
@@ -157,7 +158,7 @@ pub tear_own_causes : (g : GuestState) (v w : StorageView) (d e : DiskView) (cpu
     → TearOwnCase g cpu slot index v d h t w e → AnswerCause g v d cpu t h w e
 tear_own_causes g v w d e cpu slot index h t f its (had_no_page_of_its k none passes ew ee) =
     let after = released g.parts slot index in
-    torn_past_causes g v w d e cpu slot index after h t k (taken-released g v d cpu slot index f k its none) (is_past g cpu slot index after h t passes)
+    torn_past_causes g h cpu slot index after v w d e t k (taken-released g v d cpu slot index f k its none) (is_past g cpu slot index after h t passes)
 tear_own_causes g v w d e cpu slot index h t f its (tear_waited page owner k found locked eh et ew ee) =
     rw et (
       eh,
@@ -174,4 +175,4 @@ tear_own_causes g v w d e cpu slot index h t f its (tear_own_missed why k eh et 
     rw et (record { tables = inl eh; command = (Unmap k.tearing.number, k.tearing.command) }, ee, misses.risen)
 tear_own_causes g v w d e cpu slot index h t f its (was_torn_off page found k has back may unused passes) =
     let after = released (freed g.parts page) slot index in
-    torn_past_causes g v w d e cpu slot index after h t k (taken-torn_off g v w d e cpu slot index page found f k its has back may unused) (is_past g cpu slot index after h t passes)
+    torn_past_causes g h cpu slot index after v w d e t k (taken-torn_off g v w d e cpu slot index page found f k its has back may unused) (is_past g cpu slot index after h t passes)

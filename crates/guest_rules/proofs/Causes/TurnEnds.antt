@@ -91,22 +91,24 @@ resolve_follows g last parts PlaceDone names = tt
 resolve_follows g last parts PlaceGone names = tt
 resolve_follows g last parts (PlaceAgain why) names = names
 
-pin_follows : (g : GuestState) (cpu : ℕ) (op : Op) (last : Option Why) (parts : Parts) (r : Placed) → PlacedNames last (parts, r) → Ends (pin_next g cpu op parts r) last TurnNames
-pin_follows g cpu op last parts PlaceDone names = tt
-pin_follows g cpu op last parts PlaceGone names = tt
-pin_follows g cpu op last parts (PlaceAgain why) names = names
+-- g the guest, cpu the processor, op its command, last the call that missed last, parts the guest's tables
+module _ (g : GuestState) (cpu : ℕ) (op : Op) (last : Option Why) (parts : Parts) where
+  pin_follows : (r : Placed) → PlacedNames last (parts, r) → Ends (pin_next g cpu op parts r) last TurnNames
+  pin_follows PlaceDone names = tt
+  pin_follows PlaceGone names = tt
+  pin_follows (PlaceAgain why) names = names
 
-fill_follows : (g : GuestState) (cpu : ℕ) (op : Op) (last : Option Why) (parts : Parts) (r : Filled) → FilledNames last (parts, r) → Ends (fill_next g cpu op parts r) last TurnNames
-fill_follows g cpu op last parts FilledDone names = tt
-fill_follows g cpu op last parts (FilledAgain why) names = names
-fill_follows g cpu op last parts (FilledFail cause) names = tt
+  fill_follows : (r : Filled) → FilledNames last (parts, r) → Ends (fill_next g cpu op parts r) last TurnNames
+  fill_follows FilledDone names = tt
+  fill_follows (FilledAgain why) names = names
+  fill_follows (FilledFail cause) names = tt
 
-room_follows : (g : GuestState) (cpu : ℕ) (op : Op) (last : Option Why) (parts : Parts) (r : Room) → RoomNames last (parts, r) → Ends (room_next g cpu op parts r) last TurnNames
-room_follows g cpu op last parts Freed names = tt
-room_follows g cpu op last parts (RoomLocked page) names = tt
-room_follows g cpu op last parts (RoomWaits page owner) names = tt
-room_follows g cpu op last parts (NoPage pinned unslotted) names = tt
-room_follows g cpu op last parts (RoomAgain why) names = names
+  room_follows : (r : Room) → RoomNames last (parts, r) → Ends (room_next g cpu op parts r) last TurnNames
+  room_follows Freed names = tt
+  room_follows (RoomLocked page) names = tt
+  room_follows (RoomWaits page owner) names = tt
+  room_follows (NoPage pinned unslotted) names = tt
+  room_follows (RoomAgain why) names = names
 
 passed_names : (g : GuestState) (cpu : ℕ) (op : Op) (pages index : ℕ) (last : Option Why) → TurnNames last (passed g cpu op pages index)
 passed_names g cpu op pages index last = of (nat_lt (index + 1) pages)
@@ -193,78 +195,82 @@ unfolding begin_turn
 begin_ends g cpu tag page (Err busy) = refl
 begin_ends g cpu tag page (Ok u) = λ was_done. tt
 
-room_ends : (g : GuestState) (cpu : ℕ) (op : Op) → Ends (room_turn g cpu op) None TurnNames
-unfolding room_turn
-room_ends g cpu op = row_ends (make_room g.parts cpu) (room_next g cpu op) RoomNames (make_room_ends g.parts cpu) (room_follows g cpu op)
+-- g the guest, cpu the processor, op its command
+module _ (g : GuestState) (cpu : ℕ) (op : Op) where
+  room_ends : Ends (room_turn g cpu op) None TurnNames
+  unfolding room_turn
+  room_ends = row_ends (make_room g.parts cpu) (room_next g cpu op) RoomNames (make_room_ends g.parts cpu) (room_follows g cpu op)
 
-free_ends : (g : GuestState) (cpu : ℕ) (op : Op) (tag : Tag) (free : List ℕ) → Ends (start_free g cpu op tag free) None TurnNames
-free_ends g cpu op tag [] = room_ends g cpu op
-free_ends g cpu op tag (page ∷ rest) = begin_ends g cpu tag page
+  free_ends : (tag : Tag) (free : List ℕ) → Ends (start_free g cpu op tag free) None TurnNames
+  free_ends tag [] = room_ends
+  free_ends tag (page ∷ rest) = begin_ends g cpu tag page
 
-locked_ends : (g : GuestState) (cpu : ℕ) (op : Op) (page : ℕ) (owner : Option ℕ) → Ends (start_locked g cpu op page owner) None TurnNames
-locked_ends g cpu op page (Some owner) = tt
-locked_ends g cpu op page None = use_ends g cpu op page
+  locked_ends : (page : ℕ) (owner : Option ℕ) → Ends (start_locked g cpu op page owner) None TurnNames
+  locked_ends page (Some owner) = tt
+  locked_ends page None = use_ends g cpu op page
 
-found_ends : (g : GuestState) (cpu : ℕ) (op : Op) (tag : Tag) (found : Option ℕ) → Ends (start_found g cpu op tag found) None TurnNames
-found_ends g cpu op tag None = free_ends g cpu op tag g.parts.pages.free
-found_ends g cpu op tag (Some page) = locked_ends g cpu op page (info_at g.parts.pages page).owner
+  found_ends : (tag : Tag) (found : Option ℕ) → Ends (start_found g cpu op tag found) None TurnNames
+  found_ends tag None = free_ends tag g.parts.pages.free
+  found_ends tag (Some page) = locked_ends page (info_at g.parts.pages page).owner
 
-tagged_ends : (g : GuestState) (cpu : ℕ) (op : Op) (tag : Tag) → Ends (start_tagged g cpu op tag) None TurnNames
-tagged_ends g cpu op tag = found_ends g cpu op tag (page_of g.parts.cache tag)
+  tagged_ends : (tag : Tag) → Ends (start_tagged g cpu op tag) None TurnNames
+  tagged_ends tag = found_ends tag (page_of g.parts.cache tag)
 
-at_ends : (g : GuestState) (cpu : ℕ) (op : Op) (tag : Option Tag) → Ends (start_at g cpu op tag) None TurnNames
-at_ends g cpu op None = tt
-at_ends g cpu op (Some tag) = tagged_ends g cpu op tag
+  at_ends : (tag : Option Tag) → Ends (start_at g cpu op tag) None TurnNames
+  at_ends None = tt
+  at_ends (Some tag) = tagged_ends tag
 
-entry_ends : (g : GuestState) (cpu : ℕ) (op : Op) (writes : Bool) (slot index : ℕ) (entry : Option Pte) → Ends (start_entry g cpu op writes slot index entry) None TurnNames
-entry_ends g cpu op writes slot index None = at_ends g cpu op (tag_at g.parts.maps slot index)
-entry_ends g cpu op writes slot index (Some pte) = of (writes && not pte.writable)
-  where
-    of : (sets : Bool) → Ends (if sets then start_at g cpu op (tag_at g.parts.maps slot index) else hit_turn g cpu op pte.page) None TurnNames
-    of true = at_ends g cpu op (tag_at g.parts.maps slot index)
-    of false = hit_ends g cpu op pte.page
+  entry_ends : (writes : Bool) (slot index : ℕ) (entry : Option Pte) → Ends (start_entry g cpu op writes slot index entry) None TurnNames
+  entry_ends writes slot index None = at_ends (tag_at g.parts.maps slot index)
+  entry_ends writes slot index (Some pte) = of (writes && not pte.writable)
+    where
+      of : (sets : Bool) → Ends (if sets then start_at g cpu op (tag_at g.parts.maps slot index) else hit_turn g cpu op pte.page) None TurnNames
+      of true = at_ends (tag_at g.parts.maps slot index)
+      of false = hit_ends g cpu op pte.page
 
-mapped_ends : (g : GuestState) (cpu : ℕ) (op : Op) (writes : Bool) (off : ℕ) (found : Option ℕ) → Ends (start_mapped g cpu op writes off found) None TurnNames
-mapped_ends g cpu op writes off None = tt
-mapped_ends g cpu op writes off (Some slot) = entry_ends g cpu op writes slot (off / PAGE) (entry_at g.parts.maps slot (off / PAGE))
+  mapped_ends : (writes : Bool) (off : ℕ) (found : Option ℕ) → Ends (start_mapped g cpu op writes off found) None TurnNames
+  mapped_ends writes off None = tt
+  mapped_ends writes off (Some slot) = entry_ends writes slot (off / PAGE) (entry_at g.parts.maps slot (off / PAGE))
 
-placed_ends : (g : GuestState) (cpu : ℕ) (op : Op) (index : ℕ) (found : Option ℕ) → Ends (start_placed g cpu op index found) None TurnNames
-placed_ends g cpu op index None = tt
-placed_ends g cpu op index (Some slot) = at_ends g cpu op (tag_at g.parts.maps slot index)
+  placed_ends : (index : ℕ) (found : Option ℕ) → Ends (start_placed g cpu op index found) None TurnNames
+  placed_ends index None = tt
+  placed_ends index (Some slot) = at_ends (tag_at g.parts.maps slot index)
 
-map_ends : (g : GuestState) (cpu : ℕ) (op : Op) (number : ℕ) (shown : Shown) (count : ℕ) (free : Option ℕ) → Ends (map_turn g cpu op number shown count free) None TurnNames
-map_ends g cpu op number shown count None = tt
-map_ends g cpu op number shown count (Some slot) = tt
+  map_ends : (number : ℕ) (shown : Shown) (count : ℕ) (free : Option ℕ) → Ends (map_turn g cpu op number shown count free) None TurnNames
+  map_ends number shown count None = tt
+  map_ends number shown count (Some slot) = tt
 
-unmap_ends : (g : GuestState) (cpu : ℕ) (op : Op) (found : Option ℕ) → Ends (unmap_turn g cpu op found) None TurnNames
-unmap_ends g cpu op None = tt
-unmap_ends g cpu op (Some slot) = tt
+  unmap_ends : (found : Option ℕ) → Ends (unmap_turn g cpu op found) None TurnNames
+  unmap_ends None = tt
+  unmap_ends (Some slot) = tt
 
-teardown_entry_ends : (g : GuestState) (cpu slot index count : ℕ) (entry : Option Pte) → Ends (teardown_entry g cpu slot index count entry) None TurnNames
-teardown_entry_ends g cpu slot index count None = torn_names g cpu slot index count None
-teardown_entry_ends g cpu slot index count (Some pte) =
-    row_ends (clear_entry g.parts slot index pte) (torn_next g cpu slot index count) PlacedNames (clear_ends g.parts slot index pte) (torn_follows g cpu slot index count)
+-- g the guest, cpu the processor, slot the slot of a mapping, index a page of it
+module _ (g : GuestState) (cpu slot index : ℕ) where
+  teardown_entry_ends : (count : ℕ) (entry : Option Pte) → Ends (teardown_entry g cpu slot index count entry) None TurnNames
+  teardown_entry_ends count None = torn_names g cpu slot index count None
+  teardown_entry_ends count (Some pte) =
+      row_ends (clear_entry g.parts slot index pte) (torn_next g cpu slot index count) PlacedNames (clear_ends g.parts slot index pte) (torn_follows g cpu slot index count)
 
-teardown_owned_ends : (g : GuestState) (cpu slot index count page : ℕ) (owner : Option ℕ) → Ends (teardown_owned g cpu slot index count page owner) None TurnNames
-teardown_owned_ends g cpu slot index count page (Some owner) = tt
-teardown_owned_ends g cpu slot index count page None =
-    row_ends (tear_page g.parts slot index page) (torn_next g cpu slot index count) PlacedNames (tear_ends g.parts slot index page) (torn_follows g cpu slot index count)
+  teardown_owned_ends : (count page : ℕ) (owner : Option ℕ) → Ends (teardown_owned g cpu slot index count page owner) None TurnNames
+  teardown_owned_ends count page (Some owner) = tt
+  teardown_owned_ends count page None =
+      row_ends (tear_page g.parts slot index page) (torn_next g cpu slot index count) PlacedNames (tear_ends g.parts slot index page) (torn_follows g cpu slot index count)
 
-teardown_page_ends : (g : GuestState) (cpu slot index count : ℕ) (page : Option ℕ) → Ends (teardown_page g cpu slot index count page) None TurnNames
-teardown_page_ends g cpu slot index count None = torn_names (with_parts g (released g.parts slot index)) cpu slot index count None
-teardown_page_ends g cpu slot index count (Some page) = teardown_owned_ends g cpu slot index count page (info_at g.parts.pages page).owner
+  teardown_page_ends : (count : ℕ) (page : Option ℕ) → Ends (teardown_page g cpu slot index count page) None TurnNames
+  teardown_page_ends count None = torn_names (with_parts g (released g.parts slot index)) cpu slot index count None
+  teardown_page_ends count (Some page) = teardown_owned_ends count page (info_at g.parts.pages page).owner
 
-teardown_shown_ends : (g : GuestState) (cpu slot index count : ℕ) (shown : Shown) → Ends (teardown_shown g cpu slot index count shown) None TurnNames
-teardown_shown_ends g cpu slot index count (OfFile file first writable) = teardown_entry_ends g cpu slot index count (entry_at g.parts.maps slot index)
-teardown_shown_ends g cpu slot index count OfItsOwn = teardown_page_ends g cpu slot index count (page_of g.parts.cache (Anon slot index))
+  teardown_shown_ends : (count : ℕ) (shown : Shown) → Ends (teardown_shown g cpu slot index count shown) None TurnNames
+  teardown_shown_ends count (OfFile file first writable) = teardown_entry_ends count (entry_at g.parts.maps slot index)
+  teardown_shown_ends count OfItsOwn = teardown_page_ends count (page_of g.parts.cache (Anon slot index))
 
-teardown_in_ends : (g : GuestState) (cpu slot index : ℕ) (mapping : Option Slot) → Ends (teardown_in g cpu slot index mapping) None TurnNames
-teardown_in_ends g cpu slot index None = tt
-teardown_in_ends g cpu slot index (Some mapping) = teardown_shown_ends g cpu slot index mapping.count mapping.shown
+  teardown_in_ends : (mapping : Option Slot) → Ends (teardown_in g cpu slot index mapping) None TurnNames
+  teardown_in_ends None = tt
+  teardown_in_ends (Some mapping) = teardown_shown_ends mapping.count mapping.shown
 
-teardown_ends : (g : GuestState) (cpu slot index : ℕ) → Ends (teardown_turn g cpu slot index) None TurnNames
-unfolding teardown_turn
-teardown_ends g cpu slot index = teardown_in_ends g cpu slot index (slot_at g.parts.maps slot)
+  teardown_ends : Ends (teardown_turn g cpu slot index) None TurnNames
+  unfolding teardown_turn
+  teardown_ends = teardown_in_ends (slot_at g.parts.maps slot)
 
 look_ends : (g : GuestState) (cpu file index : ℕ) (found : Option ℕ) → Ends (sync_found g cpu (Sync file) (file_pages g.plan.files file) index found) None TurnNames
 look_ends g cpu file index None = passed_names g cpu (Sync file) (file_pages g.plan.files file) index None

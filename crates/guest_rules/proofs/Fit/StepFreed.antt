@@ -164,82 +164,81 @@ behind-faults : (parts : Parts) (page : ℕ) → (behind parts page).faults ≡ 
 unfolding behind
 behind-faults parts page = refl
 
--- a clean page that isn't pinned is freed to make room: its block has its bytes
-pub Fit-cleared : (state : FlatState) (g : GuestState) (v : StorageView) (d : DiskView) (w : StorageView) (e : DiskView) (tag : Tag) (page : ℕ) (found : PageValue) → FitAt state g v d
-    → HasPage g tag page → (info_at g.parts.pages page).pins ≡ 0 → GivenBack page v d w e → MayBecome (v.values page) found → is_lost found.contents ≡ false → found.changed ≡ false
-    → (info_at g.parts.pages page).dirty ≡ false → IsMadeUnused found (w.values page)
-    → FitAt state (with_parts g (behind (freed g.parts page) page)) w e
-Fit-cleared state g v d w e tag page found f has unpinned back may there unchanged clean unused =
-    Fit-freed state g v d (with_parts g after) w e 0 page 0 (processor_at g 0).phase tag f back has.below has.tagged refl refl (behind-pages (freed g.parts page) page)
-    (behind-cache (freed g.parts page) page) (behind-maps (freed g.parts page) page)
-    (change-nothing g.processors 0 (processor_at g 0).phase refl) (PageFits-unused g d found (w.values page) unused)
-    (λ change blocks. LocksFit-unlocked g (with_parts g after) page free_info f.locks refl refl change has.unlocked refl free_lock blocks) (λ flat. backed) unpinned
-    (record {
-      handled = omega (arith, behind-faults (freed g.parts page) page, freed-faults g.parts page);
-      counted = omega (arith, may-faults (v.values page) found may, unused-kept found (w.values page) unused, unused.count);
-    })
-  where
-    after : Parts
-    after = behind (freed g.parts page) page
+-- state the flat machine's state, g the guest, v its storage, d its disk
+module _ (state : FlatState) (g : GuestState) (v : StorageView) (d : DiskView) where
+  -- a clean page that isn't pinned is freed to make room: its block has its bytes
+  pub Fit-cleared : (w : StorageView) (e : DiskView) (tag : Tag) (page : ℕ) (found : PageValue) → FitAt state g v d → HasPage g tag page → (info_at g.parts.pages page).pins ≡ 0
+      → GivenBack page v d w e → MayBecome (v.values page) found → is_lost found.contents ≡ false → found.changed ≡ false → (info_at g.parts.pages page).dirty ≡ false
+      → IsMadeUnused found (w.values page) → FitAt state (with_parts g (behind (freed g.parts page) page)) w e
+  Fit-cleared w e tag page found f has unpinned back may there unchanged clean unused =
+      Fit-freed state g v d (with_parts g after) w e 0 page 0 (processor_at g 0).phase tag f back has.below has.tagged refl refl (behind-pages (freed g.parts page) page)
+      (behind-cache (freed g.parts page) page) (behind-maps (freed g.parts page) page)
+      (change-nothing g.processors 0 (processor_at g 0).phase refl) (PageFits-unused g d found (w.values page) unused)
+      (λ change blocks. LocksFit-unlocked g (with_parts g after) page free_info f.locks refl refl change has.unlocked refl free_lock blocks) (λ flat. backed) unpinned
+      (record {
+        handled = omega (arith, behind-faults (freed g.parts page) page, freed-faults g.parts page);
+        counted = omega (arith, may-faults (v.values page) found may, unused-kept found (w.values page) unused, unused.count);
+      })
+    where
+      after : Parts
+      after = behind (freed g.parts page) page
 
-    uptodate : (info_at g.parts.pages page).uptodate ≡ true
-    uptodate = f.locks.stale page tag has.tagged has.unlocked
+      uptodate : (info_at g.parts.pages page).uptodate ≡ true
+      uptodate = f.locks.stale page tag has.tagged has.unlocked
 
-    fits : PageFits g.parts.cache d (info_at g.parts.pages page) (v.values page)
-    fits = (EachPageFits-from g.parts v d (infos-pages g v d f.sizes) f.tags f.hints f.contents).each page (rw (infos-pages g v d f.sizes) at has.below)
+      fits : PageFits g.parts.cache d (info_at g.parts.pages page) (v.values page)
+      fits = (EachPageFits-from g.parts v d (infos-pages g v d f.sizes) f.tags f.hints f.contents).each page (rw (infos-pages g v d f.sizes) at has.below)
 
-    -- the page has what its block has
-    same : found.contents ≡ Bytes (backing g.parts.cache d tag)
-    same = (PageFits-may g.parts.cache d (info_at g.parts.pages page) (v.values page) found fits may).same tag has.tagged uptodate clean unchanged there
+      -- the page has what its block has
+      same : found.contents ≡ Bytes (backing g.parts.cache d tag)
+      same = (PageFits-may g.parts.cache d (info_at g.parts.pages page) (v.values page) found fits may).same tag has.tagged uptodate clean unchanged there
 
-    backed : current_bytes (info_at g.parts.pages page).uptodate (v.values page).contents (backing g.parts.cache d tag) ≡ backing g.parts.cache d tag
-    backed =
-        sym (current_bytes-may g.parts.cache d (info_at g.parts.pages page) (v.values page) found tag fits has.tagged may)
-        ∙ ap (λ u. current_bytes u found.contents (backing g.parts.cache d tag)) uptodate
-        ∙ ap (λ c. current_bytes true c (backing g.parts.cache d tag)) same
+      backed : current_bytes (info_at g.parts.pages page).uptodate (v.values page).contents (backing g.parts.cache d tag) ≡ backing g.parts.cache d tag
+      backed =
+          sym (current_bytes-may g.parts.cache d (info_at g.parts.pages page) (v.values page) found tag fits has.tagged may)
+          ∙ ap (λ u. current_bytes u found.contents (backing g.parts.cache d tag)) uptodate
+          ∙ ap (λ c. current_bytes true c (backing g.parts.cache d tag)) same
 
--- nothing that is pinned maps a page of a mapping that is torn down
-torn-unpinned : (state : FlatState) (g : GuestState) (v : StorageView) (d : DiskView) (page slot index : ℕ) (mapping : Slot) → FitAt state g v d → slot_at g.parts.maps slot ≡ Some mapping
-    → mapping.live ≡ false → (info_at g.parts.pages page).tag ≡ Some (Anon slot index) → (info_at g.parts.pages page).pins ≡ 0
-torn-unpinned state g v d page slot index mapping f at torn tagged =
-    f.pins.counted page (Anon slot index) tagged
-    ∙ pins_within-none g.parts.maps (Anon slot index) (length g.parts.maps.slots) MAX_MAPPING_PAGES
-    (λ s i lt pinned mapped.
-    let k = shows_at state g.parts s i (Anon slot index) f.slots mapped in
-    let same : slot ≡ s = own_slot k.mapping.shown s i slot index k.is in
-    let bad : false ≡ true = sym (f.teardowns.unpinned slot i mapping at torn lt) ∙ ap (λ x. pinned_at g.parts.maps x i) same ∙ pinned in cc)
-  where
-    own_slot : (shown : Shown) (s i slot index : ℕ) → Anon slot index ≡ tag_of shown s i → slot ≡ s
-    own_slot (OfFile file first writable) s i slot index e = absurd (cc e)
-    own_slot OfItsOwn s i slot index e = cc
+  -- nothing that is pinned maps a page of a mapping that is torn down
+  torn-unpinned : (page slot index : ℕ) (mapping : Slot) → FitAt state g v d → slot_at g.parts.maps slot ≡ Some mapping → mapping.live ≡ false
+      → (info_at g.parts.pages page).tag ≡ Some (Anon slot index) → (info_at g.parts.pages page).pins ≡ 0
+  torn-unpinned page slot index mapping f at torn tagged =
+      f.pins.counted page (Anon slot index) tagged
+      ∙ pins_within-none g.parts.maps (Anon slot index) (length g.parts.maps.slots) MAX_MAPPING_PAGES
+      (λ s i lt pinned mapped.
+      let k = shows_at state g.parts s i (Anon slot index) f.slots mapped in
+      let same : slot ≡ s = own_slot k.mapping.shown s i slot index k.is in
+      let bad : false ≡ true = sym (f.teardowns.unpinned slot i mapping at torn lt) ∙ ap (λ x. pinned_at g.parts.maps x i) same ∙ pinned in cc)
+    where
+      own_slot : (shown : Shown) (s i slot index : ℕ) → Anon slot index ≡ tag_of shown s i → slot ≡ s
+      own_slot (OfFile file first writable) s i slot index e = absurd (cc e)
+      own_slot OfItsOwn s i slot index e = cc
 
--- a page is taken off a mapping of pages of its own that is torn down: its bytes go with it
-pub Fit-torn_off : (state : FlatState) (g : GuestState) (v : StorageView) (d : DiskView) (w : StorageView) (e : DiskView) (slot index page : ℕ) (mapping : Slot) (found : PageValue)
-    → FitAt state g v d → slot_at g.parts.maps slot ≡ Some mapping → mapping.live ≡ false → HasPage g (Anon slot index) page → GivenBack page v d w e → MayBecome (v.values page) found
-    → IsMadeUnused found (w.values page) → FitAt state (with_parts g (freed g.parts page)) w e
-Fit-torn_off state g v d w e slot index page mapping found f at torn has back may unused =
-    Fit-freed state g v d (with_parts g (freed g.parts page)) w e 0 page 0 (processor_at g 0).phase (Anon slot index) f back has.below has.tagged refl refl refl refl refl
-    (change-nothing g.processors 0 (processor_at g 0).phase refl) (PageFits-unused g d found (w.values page) unused)
-    (λ change blocks. LocksFit-unlocked g (with_parts g (freed g.parts page)) page free_info f.locks refl refl change has.unlocked refl free_lock blocks)
-    (λ flat. absurd (never_live g.parts slot index mapping at torn flat)) (torn-unpinned state g v d page slot index mapping f at torn has.tagged)
-    (record {
-      handled = omega (arith, freed-faults g.parts page);
-      counted = omega (arith, may-faults (v.values page) found may, unused-kept found (w.values page) unused, unused.count);
-    })
+  -- a page is taken off a mapping of pages of its own that is torn down: its bytes go with it
+  pub Fit-torn_off : (w : StorageView) (e : DiskView) (slot index page : ℕ) (mapping : Slot) (found : PageValue) → FitAt state g v d → slot_at g.parts.maps slot ≡ Some mapping → mapping.live ≡ false
+      → HasPage g (Anon slot index) page → GivenBack page v d w e → MayBecome (v.values page) found → IsMadeUnused found (w.values page) → FitAt state (with_parts g (freed g.parts page)) w e
+  Fit-torn_off w e slot index page mapping found f at torn has back may unused =
+      Fit-freed state g v d (with_parts g (freed g.parts page)) w e 0 page 0 (processor_at g 0).phase (Anon slot index) f back has.below has.tagged refl refl refl refl refl
+      (change-nothing g.processors 0 (processor_at g 0).phase refl) (PageFits-unused g d found (w.values page) unused)
+      (λ change blocks. LocksFit-unlocked g (with_parts g (freed g.parts page)) page free_info f.locks refl refl change has.unlocked refl free_lock blocks)
+      (λ flat. absurd (never_live g.parts slot index mapping at torn flat)) (torn-unpinned page slot index mapping f at torn has.tagged)
+      (record {
+        handled = omega (arith, freed-faults g.parts page);
+        counted = omega (arith, may-faults (v.values page) found may, unused-kept found (w.values page) unused, unused.count);
+      })
 
--- a page that couldn't be filled is free, and its processor is in phase Start
-pub Fit-given_up : (state : FlatState) (g : GuestState) (v : StorageView) (d : DiskView) (w : StorageView) (e : DiskView) (cpu page : ℕ) → FitAt state g v d → cpu < length g.processors
-    → (processor_at g cpu).phase ≡ Fill page
-    → GivenBack page v d w e → IsMadeUnused (v.values page) (w.values page) → FitAt state (with_phase (with_parts g (freed g.parts page)) cpu Start) w e
-unfolding with_phase
-Fit-given_up state g v d w e cpu page f below phase back unused =
-    let k = (f.locks.filling cpu page phase).1 in
-    let phases = change-with_phase g.processors cpu Start below (ap teardown_of (sym phase)) in
-    Fit-freed state g v d (with_phase (with_parts g (freed g.parts page)) cpu Start) w e cpu page 0 Start k.tag f back k.below k.tagged refl refl refl refl refl
-    phases
-    (PageFits-unused g d (v.values page) (w.values page) unused)
-    (λ change blocks. LocksFit-released g (with_phase (with_parts g (freed g.parts page)) cpu Start) cpu page free_info f.locks refl change phases refl
-    (inl phase) free_lock blocks)
-    (λ flat. current_bytes-stale (info_at g.parts.pages page).uptodate (v.values page).contents (backing g.parts.cache d k.tag) k.stale)
-    (stale-unpinned g.parts page k.tag f.pins f.pages k.tagged k.stale)
-    (record { handled = omega (arith, freed-faults g.parts page); counted = omega (arith, unused-kept (v.values page) (w.values page) unused, unused.count) })
+  -- a page that couldn't be filled is free, and its processor is in phase Start
+  pub Fit-given_up : (w : StorageView) (e : DiskView) (cpu page : ℕ) → FitAt state g v d → cpu < length g.processors → (processor_at g cpu).phase ≡ Fill page → GivenBack page v d w e
+      → IsMadeUnused (v.values page) (w.values page) → FitAt state (with_phase (with_parts g (freed g.parts page)) cpu Start) w e
+  unfolding with_phase
+  Fit-given_up w e cpu page f below phase back unused =
+      let k = (f.locks.filling cpu page phase).1 in
+      let phases = change-with_phase g.processors cpu Start below (ap teardown_of (sym phase)) in
+      Fit-freed state g v d (with_phase (with_parts g (freed g.parts page)) cpu Start) w e cpu page 0 Start k.tag f back k.below k.tagged refl refl refl refl refl
+      phases
+      (PageFits-unused g d (v.values page) (w.values page) unused)
+      (λ change blocks. LocksFit-released g (with_phase (with_parts g (freed g.parts page)) cpu Start) cpu page free_info f.locks refl change phases refl
+      (inl phase) free_lock blocks)
+      (λ flat. current_bytes-stale (info_at g.parts.pages page).uptodate (v.values page).contents (backing g.parts.cache d k.tag) k.stale)
+      (stale-unpinned g.parts page k.tag f.pins f.pages k.tagged k.stale)
+      (record { handled = omega (arith, freed-faults g.parts page); counted = omega (arith, unused-kept (v.values page) (w.values page) unused, unused.count) })

@@ -182,153 +182,153 @@ pub record IsDirty (g : GuestState) (page : ℕ) (tag : Tag) : Type 0 where
   pub uptodate : (info_at g.parts.pages page).uptodate ≡ true
   pub dirty : (info_at g.parts.pages page).dirty ≡ true
 
-assigned-step : (state : FlatState) (g : GuestState) (v : StorageView) (d : DiskView) (page slot index number : ℕ) → FitAt state g v d → IsDirty g page (Anon slot index)
-    → swap_slot g.parts.cache (Anon slot index) ≡ None → free_swap g.parts.cache ≡ Some number → SwapStep g v d (assigned g.parts.cache (Anon slot index) (Some number))
-assigned-step state g v d page slot index number f k none free = record {
-  files = refl;
-  slots = refl;
-  index = refl;
-  size = length-set old.swap number (Some tag);
-  backs = λ p t e. elim (cases_tag t tag) [
-    | inl z ↦ inr (ap (λ q. (info_at g.parts.pages q).dirty) (its_page p t e z) ∙ k.dirty, ap (backing_of old) z ∙ ap (λ o. backing_of_slot o) none)
-    | inr n ↦ inl (backing_of-other old new t refl (others t n))
-  ];
-  currents = λ t is. elim (cases_tag t tag) [
-    | inl z ↦ ap (current (record g.parts { cache = new }) v d) z ∙ here ∙ sym (ap (current g.parts v d) z)
-    | inr n ↦
+-- state the flat machine's state, g the guest, v its storage, d its disk
+module _ (state : FlatState) (g : GuestState) (v : StorageView) (d : DiskView) where
+  assigned-step : (page slot index number : ℕ) → FitAt state g v d → IsDirty g page (Anon slot index) → swap_slot g.parts.cache (Anon slot index) ≡ None → free_swap g.parts.cache ≡ Some number
+      → SwapStep g v d (assigned g.parts.cache (Anon slot index) (Some number))
+  assigned-step page slot index number f k none free = record {
+    files = refl;
+    slots = refl;
+    index = refl;
+    size = length-set old.swap number (Some tag);
+    backs = λ p t e. elim (cases_tag t tag) [
+      | inl z ↦ inr (ap (λ q. (info_at g.parts.pages q).dirty) (its_page p t e z) ∙ k.dirty, ap (backing_of old) z ∙ ap (λ o. backing_of_slot o) none)
+      | inr n ↦ inl (backing_of-other old new t refl (others t n))
+    ];
+    currents = λ t is. elim (cases_tag t tag) [
+      | inl z ↦ ap (current (record g.parts { cache = new }) v d) z ∙ here ∙ sym (ap (current g.parts v d) z)
+      | inr n ↦
+          ap (λ o. current_at g.parts v o (backing new d t)) (page_of-swapped old new t refl refl)
+          ∙ ap (λ o. current_at g.parts v (page_of old t) (backed d.blocks o)) (backing_of-other old new t refl (others t n))
+    ];
+    untagged = λ s i mapping at torn below was. elim (cases_tag (Anon s i) tag) [
+      | inl z ↦ let bad : None ≡ Some page = sym was.0 ∙ ap (page_of old) z ∙ (f.pages.indexed page tag k.tagged).1 in absurd cc
+      | inr n ↦ (page_of-swapped old new (Anon s i) refl refl ∙ was.0, others (Anon s i) n ∙ was.1)
+    ];
+    tags = record {
+      pages = f.tags.pages;
+      swapped = λ other t e. elim (cases_eq other number) [
+        | inl z ↦
+            let both : Some tag ≡ Some t = sym (swap-here old new number (Some tag) change) ∙ ap (swap_tag new) (sym z) ∙ e in
+            subst (λ x. IsAnonymous x × IsUsedTag g.parts.maps x) (some_exact both) (tt, f.tags.pages page tag k.tagged)
+        | inr n ↦ f.tags.swapped other t (sym (swap-others old new number (Some tag) change other n) ∙ e)
+      ];
+      distinct = distinct-assigned old new number tag change f.tags.distinct (λ other e. swap_slot-nowhere old slot index other none e);
+    };
+  }
+    where
+      tag : Tag
+      tag = Anon slot index
+
+      old : CacheView
+      old = g.parts.cache
+
+      new : CacheView
+      new = assigned old tag (Some number)
+
+      backing_of_slot : Option ℕ → Option ℕ
+      backing_of_slot o = swap_block old.files o
+
+      is_free : (number < length old.swap) × (is_none (swap_tag old number) ≡ true)
+      is_free = let at = position-Some is_none old.swap number None free in (at.0, at.1)
+
+      change : SwapChange old new number (Some tag)
+      change = record { below = is_free.0; files = refl; slots = refl; index = refl; swap = refl }
+
+      its_page : (p : ℕ) (t : Tag) → (info_at g.parts.pages p).tag ≡ Some t → t ≡ tag → p ≡ page
+      its_page p t e z = page_exact p page (sym (f.pages.indexed p t e).1 ∙ ap (page_of old) z ∙ (f.pages.indexed page tag k.tagged).1)
+
+      others : (t : Tag) → t ≢ tag → swap_slot new t ≡ swap_slot old t
+      others t n =
+          swap_slot-other old new number (Some tag) t change (λ e. let bad : None ≡ Some t = sym (no_tag (swap_tag old number) is_free.1) ∙ e in cc) (λ e. n (sym (some_exact e)))
+
+      below : page < v.pages
+      below = rw (infos-pages g v d f.sizes) at (tagged-below g.parts.pages page tag k.tagged)
+
+      there : is_lost (v.values page).contents ≡ false
+      there = stable_there (v.values page) (f.hints.hints page below ∙ hint-dirty (info_at g.parts.pages page) tag k.tagged k.dirty) (f.hints.values page below)
+
+      here : current (record g.parts { cache = new }) v d tag ≡ current g.parts v d tag
+      here =
+          ap (λ o. current_at g.parts v o (backing new d tag)) (page_of-swapped old new tag refl refl ∙ (f.pages.indexed page tag k.tagged).1)
+          ∙ behind-any (info_at g.parts.pages page).uptodate (v.values page).contents (backing new d tag) (backing old d tag) k.uptodate there
+          ∙ ap (λ o. current_at g.parts v o (backing old d tag)) (sym (f.pages.indexed page tag k.tagged).1)
+
+  -- a swap slot is assigned to an anonymous page's tag where it has none and one is free
+  pub FitAt-slotted : (page : ℕ) (tag : Tag) → FitAt state g v d → IsDirty g page tag → FitAt state (with_parts g (record g.parts { cache = with_swap_slot g.parts.cache (Some tag) })) v d
+  FitAt-slotted page (File file index) f k = f
+  FitAt-slotted page (Anon slot index) f k = of (swap_slot g.parts.cache (Anon slot index)) refl
+    where
+      next : (o : Option ℕ) → swap_slot g.parts.cache (Anon slot index) ≡ None → free_swap g.parts.cache ≡ o → FitAt state (with_cache g (assigned g.parts.cache (Anon slot index) o)) v d
+      next None none free = f
+      next (Some number) none free =
+          FitAt-swapped state g v d (assigned g.parts.cache (Anon slot index) (Some number)) f (assigned-step page slot index number f k none free)
+
+      of : (o : Option ℕ) → swap_slot g.parts.cache (Anon slot index) ≡ o → FitAt state (with_cache g (with_swap_slot g.parts.cache (Some (Anon slot index)))) v d
+      of (Some number) e =
+          let w : with_swap_slot g.parts.cache (Some (Anon slot index)) ≡ g.parts.cache = rw e refl in
+          subst (λ (c : CacheView). FitAt state (with_cache g c) v d) (sym w) f
+      of None e =
+          let w : with_swap_slot g.parts.cache (Some (Anon slot index)) ≡ assigned g.parts.cache (Anon slot index) (free_swap g.parts.cache) = rw e refl in
+          subst (λ (c : CacheView). FitAt state (with_cache g c) v d) (sym w) (next (free_swap g.parts.cache) e refl)
+
+  -- ---- a tag that no page has loses its swap slot
+
+  released-step : (slot index number : ℕ) (mapping : Slot) → FitAt state g v d → slot_at g.parts.maps slot ≡ Some mapping → mapping.live ≡ false → page_of g.parts.cache (Anon slot index) ≡ None
+      → swap_slot g.parts.cache (Anon slot index) ≡ Some number → SwapStep g v d (unassigned g.parts.cache (Some number))
+  released-step slot index number mapping f at torn none has = record {
+    files = refl;
+    slots = refl;
+    index = refl;
+    size = length-set old.swap number None;
+    backs = λ p t e. inl (backing_of-other old new t refl (others t (λ z. let bad : None ≡ Some p = sym none ∙ ap (page_of old) (sym z) ∙ (f.pages.indexed p t e).1 in cc)));
+    currents = λ t is.
+        let n : t ≢ tag = λ z. never_live g.parts slot index mapping at torn (subst (IsFlatTag g.parts) z is) in
         ap (λ o. current_at g.parts v o (backing new d t)) (page_of-swapped old new t refl refl)
-        ∙ ap (λ o. current_at g.parts v (page_of old t) (backed d.blocks o)) (backing_of-other old new t refl (others t n))
-  ];
-  untagged = λ s i mapping at torn below was. elim (cases_tag (Anon s i) tag) [
-    | inl z ↦ let bad : None ≡ Some page = sym was.0 ∙ ap (page_of old) z ∙ (f.pages.indexed page tag k.tagged).1 in absurd cc
-    | inr n ↦ (page_of-swapped old new (Anon s i) refl refl ∙ was.0, others (Anon s i) n ∙ was.1)
-  ];
-  tags = record {
-    pages = f.tags.pages;
-    swapped = λ other t e. elim (cases_eq other number) [
-      | inl z ↦
-          let both : Some tag ≡ Some t = sym (swap-here old new number (Some tag) change) ∙ ap (swap_tag new) (sym z) ∙ e in
-          subst (λ x. IsAnonymous x × IsUsedTag g.parts.maps x) (some_exact both) (tt, f.tags.pages page tag k.tagged)
-      | inr n ↦ f.tags.swapped other t (sym (swap-others old new number (Some tag) change other n) ∙ e)
+        ∙ ap (λ o. current_at g.parts v (page_of old t) (backed d.blocks o)) (backing_of-other old new t refl (others t n));
+    untagged = λ s i m there dead below was. elim (cases_tag (Anon s i) tag) [
+      | inl z ↦ (page_of-swapped old new (Anon s i) refl refl ∙ was.0, ap (swap_slot new) z ∙ swap_slot-released old new slot index number change f.tags.distinct its)
+      | inr n ↦ (page_of-swapped old new (Anon s i) refl refl ∙ was.0, others (Anon s i) n ∙ was.1)
     ];
-    distinct = distinct-assigned old new number tag change f.tags.distinct (λ other e. swap_slot-nowhere old slot index other none e);
-  };
-}
-  where
-    tag : Tag
-    tag = Anon slot index
+    tags = record {
+      pages = f.tags.pages;
+      swapped = λ other t e. elim (cases_eq other number) [
+        | inl z ↦ let bad : None ≡ Some t = sym (swap-here old new number None change) ∙ ap (swap_tag new) (sym z) ∙ e in absurd cc
+        | inr n ↦ f.tags.swapped other t (sym (swap-others old new number None change other n) ∙ e)
+      ];
+      distinct = distinct-released old new number change f.tags.distinct;
+    };
+  }
+    where
+      tag : Tag
+      tag = Anon slot index
 
-    old : CacheView
-    old = g.parts.cache
+      old : CacheView
+      old = g.parts.cache
 
-    new : CacheView
-    new = assigned old tag (Some number)
+      new : CacheView
+      new = unassigned old (Some number)
 
-    backing_of_slot : Option ℕ → Option ℕ
-    backing_of_slot o = swap_block old.files o
+      its : swap_tag old number ≡ Some tag
+      its = (swap_slot-is old slot index number has).1
 
-    is_free : (number < length old.swap) × (is_none (swap_tag old number) ≡ true)
-    is_free = let at = position-Some is_none old.swap number None free in (at.0, at.1)
+      change : SwapChange old new number None
+      change = record { below = (swap_slot-is old slot index number has).0; files = refl; slots = refl; index = refl; swap = refl }
 
-    change : SwapChange old new number (Some tag)
-    change = record { below = is_free.0; files = refl; slots = refl; index = refl; swap = refl }
+      others : (t : Tag) → t ≢ tag → swap_slot new t ≡ swap_slot old t
+      others t n = swap_slot-other old new number None t change (λ e. n (some_exact (sym e ∙ its))) (λ e. let bad : None ≡ Some t = e in cc)
 
-    its_page : (p : ℕ) (t : Tag) → (info_at g.parts.pages p).tag ≡ Some t → t ≡ tag → p ≡ page
-    its_page p t e z = page_exact p page (sym (f.pages.indexed p t e).1 ∙ ap (page_of old) z ∙ (f.pages.indexed page tag k.tagged).1)
+  -- the swap slot of a page that was taken off its mapping is free
+  pub FitAt-released : (slot index : ℕ) (mapping : Slot) → FitAt state g v d → slot_at g.parts.maps slot ≡ Some mapping → mapping.live ≡ false → page_of g.parts.cache (Anon slot index) ≡ None
+      → FitAt state (with_parts g (released g.parts slot index)) v d
+  unfolding released
+  FitAt-released slot index mapping f at torn none = of (swap_slot g.parts.cache (Anon slot index)) refl
+    where
+      of : (o : Option ℕ) → swap_slot g.parts.cache (Anon slot index) ≡ o → FitAt state (with_cache g (unassigned g.parts.cache o)) v d
+      of None e = f
+      of (Some number) e = FitAt-swapped state g v d (unassigned g.parts.cache (Some number)) f (released-step slot index number mapping f at torn none e)
 
-    others : (t : Tag) → t ≢ tag → swap_slot new t ≡ swap_slot old t
-    others t n =
-        swap_slot-other old new number (Some tag) t change (λ e. let bad : None ≡ Some t = sym (no_tag (swap_tag old number) is_free.1) ∙ e in cc) (λ e. n (sym (some_exact e)))
-
-    below : page < v.pages
-    below = rw (infos-pages g v d f.sizes) at (tagged-below g.parts.pages page tag k.tagged)
-
-    there : is_lost (v.values page).contents ≡ false
-    there = stable_there (v.values page) (f.hints.hints page below ∙ hint-dirty (info_at g.parts.pages page) tag k.tagged k.dirty) (f.hints.values page below)
-
-    here : current (record g.parts { cache = new }) v d tag ≡ current g.parts v d tag
-    here =
-        ap (λ o. current_at g.parts v o (backing new d tag)) (page_of-swapped old new tag refl refl ∙ (f.pages.indexed page tag k.tagged).1)
-        ∙ behind-any (info_at g.parts.pages page).uptodate (v.values page).contents (backing new d tag) (backing old d tag) k.uptodate there
-        ∙ ap (λ o. current_at g.parts v o (backing old d tag)) (sym (f.pages.indexed page tag k.tagged).1)
-
--- a swap slot is assigned to an anonymous page's tag where it has none and one is free
-pub FitAt-slotted : (state : FlatState) (g : GuestState) (v : StorageView) (d : DiskView) (page : ℕ) (tag : Tag) → FitAt state g v d → IsDirty g page tag
-    → FitAt state (with_parts g (record g.parts { cache = with_swap_slot g.parts.cache (Some tag) })) v d
-FitAt-slotted state g v d page (File file index) f k = f
-FitAt-slotted state g v d page (Anon slot index) f k = of (swap_slot g.parts.cache (Anon slot index)) refl
-  where
-    next : (o : Option ℕ) → swap_slot g.parts.cache (Anon slot index) ≡ None → free_swap g.parts.cache ≡ o → FitAt state (with_cache g (assigned g.parts.cache (Anon slot index) o)) v d
-    next None none free = f
-    next (Some number) none free =
-        FitAt-swapped state g v d (assigned g.parts.cache (Anon slot index) (Some number)) f (assigned-step state g v d page slot index number f k none free)
-
-    of : (o : Option ℕ) → swap_slot g.parts.cache (Anon slot index) ≡ o → FitAt state (with_cache g (with_swap_slot g.parts.cache (Some (Anon slot index)))) v d
-    of (Some number) e =
-        let w : with_swap_slot g.parts.cache (Some (Anon slot index)) ≡ g.parts.cache = rw e refl in
-        subst (λ (c : CacheView). FitAt state (with_cache g c) v d) (sym w) f
-    of None e =
-        let w : with_swap_slot g.parts.cache (Some (Anon slot index)) ≡ assigned g.parts.cache (Anon slot index) (free_swap g.parts.cache) = rw e refl in
-        subst (λ (c : CacheView). FitAt state (with_cache g c) v d) (sym w) (next (free_swap g.parts.cache) e refl)
-
--- ---- a tag that no page has loses its swap slot
-
-released-step : (state : FlatState) (g : GuestState) (v : StorageView) (d : DiskView) (slot index number : ℕ) (mapping : Slot) → FitAt state g v d → slot_at g.parts.maps slot ≡ Some mapping
-    → mapping.live ≡ false → page_of g.parts.cache (Anon slot index) ≡ None → swap_slot g.parts.cache (Anon slot index) ≡ Some number → SwapStep g v d (unassigned g.parts.cache (Some number))
-released-step state g v d slot index number mapping f at torn none has = record {
-  files = refl;
-  slots = refl;
-  index = refl;
-  size = length-set old.swap number None;
-  backs = λ p t e. inl (backing_of-other old new t refl (others t (λ z. let bad : None ≡ Some p = sym none ∙ ap (page_of old) (sym z) ∙ (f.pages.indexed p t e).1 in cc)));
-  currents = λ t is.
-      let n : t ≢ tag = λ z. never_live g.parts slot index mapping at torn (subst (IsFlatTag g.parts) z is) in
-      ap (λ o. current_at g.parts v o (backing new d t)) (page_of-swapped old new t refl refl)
-      ∙ ap (λ o. current_at g.parts v (page_of old t) (backed d.blocks o)) (backing_of-other old new t refl (others t n));
-  untagged = λ s i m there dead below was. elim (cases_tag (Anon s i) tag) [
-    | inl z ↦ (page_of-swapped old new (Anon s i) refl refl ∙ was.0, ap (swap_slot new) z ∙ swap_slot-released old new slot index number change f.tags.distinct its)
-    | inr n ↦ (page_of-swapped old new (Anon s i) refl refl ∙ was.0, others (Anon s i) n ∙ was.1)
-  ];
-  tags = record {
-    pages = f.tags.pages;
-    swapped = λ other t e. elim (cases_eq other number) [
-      | inl z ↦ let bad : None ≡ Some t = sym (swap-here old new number None change) ∙ ap (swap_tag new) (sym z) ∙ e in absurd cc
-      | inr n ↦ f.tags.swapped other t (sym (swap-others old new number None change other n) ∙ e)
-    ];
-    distinct = distinct-released old new number change f.tags.distinct;
-  };
-}
-  where
-    tag : Tag
-    tag = Anon slot index
-
-    old : CacheView
-    old = g.parts.cache
-
-    new : CacheView
-    new = unassigned old (Some number)
-
-    its : swap_tag old number ≡ Some tag
-    its = (swap_slot-is old slot index number has).1
-
-    change : SwapChange old new number None
-    change = record { below = (swap_slot-is old slot index number has).0; files = refl; slots = refl; index = refl; swap = refl }
-
-    others : (t : Tag) → t ≢ tag → swap_slot new t ≡ swap_slot old t
-    others t n = swap_slot-other old new number None t change (λ e. n (some_exact (sym e ∙ its))) (λ e. let bad : None ≡ Some t = e in cc)
-
--- the swap slot of a page that was taken off its mapping is free
-pub FitAt-released : (state : FlatState) (g : GuestState) (v : StorageView) (d : DiskView) (slot index : ℕ) (mapping : Slot) → FitAt state g v d → slot_at g.parts.maps slot ≡ Some mapping
-    → mapping.live ≡ false → page_of g.parts.cache (Anon slot index) ≡ None → FitAt state (with_parts g (released g.parts slot index)) v d
-unfolding released
-FitAt-released state g v d slot index mapping f at torn none = of (swap_slot g.parts.cache (Anon slot index)) refl
-  where
-    of : (o : Option ℕ) → swap_slot g.parts.cache (Anon slot index) ≡ o → FitAt state (with_cache g (unassigned g.parts.cache o)) v d
-    of None e = f
-    of (Some number) e = FitAt-swapped state g v d (unassigned g.parts.cache (Some number)) f (released-step state g v d slot index number mapping f at torn none e)
-
--- then it has neither a page nor a swap slot
-pub released-untagged : (state : FlatState) (g : GuestState) (v : StorageView) (d : DiskView) (slot index : ℕ) → FitAt state g v d → page_of g.parts.cache (Anon slot index) ≡ None
-    → IsUntagged (released g.parts slot index).cache slot index
-unfolding released
-released-untagged state g v d slot index f none = untagged-unassigned g.parts.cache slot index f.tags.distinct none
+  -- then it has neither a page nor a swap slot
+  pub released-untagged : (slot index : ℕ) → FitAt state g v d → page_of g.parts.cache (Anon slot index) ≡ None → IsUntagged (released g.parts slot index).cache slot index
+  unfolding released
+  released-untagged slot index f none = untagged-unassigned g.parts.cache slot index f.tags.distinct none

@@ -19,29 +19,31 @@ use Rattle.guest_rules.proofs.Kept.TeardownsKept.{sync-tears_nothing}
 use Rattle.guest_rules.proofs.Fit.FitPassed.{syncing-at}
 use Rattle.guest_rules.proofs.Fit.StepLocked.{HoldsPage, Fit-locked}
 
--- where a processor's sync is
-pub syncs-at : (g : GuestState) (cpu file index : ℕ) → Syncs g cpu file index → IsSyncing g cpu file index
-syncs-at g cpu file index s = record { cpu_below = s.has.below; command = s.has.command; file_below = s.file_below; within = s.within }
+-- g the guest, cpu the processor, file the file, index a page of it
+module _ (g : GuestState) (cpu file index : ℕ) where
+  -- where a processor's sync is
+  pub syncs-at : Syncs g cpu file index → IsSyncing g cpu file index
+  syncs-at s = record { cpu_below = s.has.below; command = s.has.command; file_below = s.file_below; within = s.within }
 
--- a processor whose sync looks at a page has none locked
-pub syncs-none : (g : GuestState) (cpu file index : ℕ) → Syncs g cpu file index → (i : ℕ) → HasLocked g cpu i → ⊥
-syncs-none g cpu file index s = of s.looks
-  where
-    of : (((processor_at g cpu).phase ≡ Start) × (index ≡ 0)) ⊎ ((processor_at g cpu).phase ≡ AtSync index) → (i : ℕ) → HasLocked g cpu i → ⊥
-    of (inl (start, first)) = locks_none g cpu Start start tt
-    of (inr looks) = locks_none g cpu (AtSync index) looks tt
+  -- a processor whose sync looks at a page has none locked
+  pub syncs-none : Syncs g cpu file index → (i : ℕ) → HasLocked g cpu i → ⊥
+  syncs-none s = of s.looks
+    where
+      of : (((processor_at g cpu).phase ≡ Start) × (index ≡ 0)) ⊎ ((processor_at g cpu).phase ≡ AtSync index) → (i : ℕ) → HasLocked g cpu i → ⊥
+      of (inl (start, first)) = locks_none g cpu Start start tt
+      of (inr looks) = locks_none g cpu (AtSync index) looks tt
 
--- what the processor writes back is the page of its file that its sync is at
-pub writes-at : (g : GuestState) (cpu file index page : ℕ) → LocksFit g → WritesBack g cpu file index page → IsSyncing g cpu file index × ShowsPage g (File file index) page
-writes-at g cpu file index page f k =
-    let is = f.writing cpu index page k.phase in
-    let both : Some (Sync is.file) ≡ Some (Sync file) = sym is.syncing.command ∙ k.has.command in
-    let same : is.file ≡ file = cc in
-    (subst (λ n. IsSyncing g cpu n index) same is.syncing, record { below = is.below; tagged = is.tagged ∙ ap (λ n. Some (File n index)) same; uptodate = is.uptodate })
+  -- what the processor writes back is the page of its file that its sync is at
+  pub writes-at : (page : ℕ) → LocksFit g → WritesBack g cpu file index page → IsSyncing g cpu file index × ShowsPage g (File file index) page
+  writes-at page f k =
+      let is = f.writing cpu index page k.phase in
+      let both : Some (Sync is.file) ≡ Some (Sync file) = sym is.syncing.command ∙ k.has.command in
+      let same : is.file ≡ file = cc in
+      (subst (λ n. IsSyncing g cpu n index) same is.syncing, record { below = is.below; tagged = is.tagged ∙ ap (λ n. Some (File n index)) same; uptodate = is.uptodate })
 
--- so it has that page locked
-pub writes-holds : (g : GuestState) (cpu file index page : ℕ) → LocksFit g → WritesBack g cpu file index page → HoldsPage g cpu page (File file index)
-writes-holds g cpu file index page f k = record { cpu_below = k.has.below; mine = inr (inl (index, k.phase)); shows = (writes-at g cpu file index page f k).1 }
+  -- so it has that page locked
+  pub writes-holds : (page : ℕ) → LocksFit g → WritesBack g cpu file index page → HoldsPage g cpu page (File file index)
+  writes-holds page f k = record { cpu_below = k.has.below; mine = inr (inl (index, k.phase)); shows = (writes-at page f k).1 }
 
 -- a dirty page is locked, to be written back
 pub Fit-sync_locked : (state : FlatState) (g : GuestState) (v : StorageView) (d : DiskView) (w : StorageView) (e : DiskView) (cpu file index page : ℕ) (found : PageValue) → FitAt state g v d

@@ -129,151 +129,153 @@ own_place state parts slot index f is = of (slot_at parts.maps slot) refl is
         pages (OfFile file first writable) count e = absurd (cc e)
         pages OfItsOwn count e = refl
 
--- at most one has the tag, and then it is a page of a mapping of its own
-one_has : (g : GuestState) (v : StorageView) (d : DiskView) (slot index : ℕ) → Fit g v d → IsStuck g.parts
-    → sum_below (λ page. page_has g.parts page slot index) (length g.parts.pages.infos) + sum_below (λ number. slot_has g.parts.cache number slot index) (length g.parts.cache.swap)
-    ≤ one_if (nat_lt index (own_pages (slot_at g.parts.maps slot)))
-one_has g v d slot index f stuck = elim (cases_eq pages 0) [
-  | inl no_page ↦ elim (cases_eq swaps 0) [
-    | inl no_slot ↦ omega (arith, no_page, no_slot)
-    | inr some ↦ omega (arith, no_page, swaps_most, place_of_swap (some_swap some))
+-- g the guest, v its storage, d its disk
+module _ (g : GuestState) (v : StorageView) (d : DiskView) where
+  -- at most one has the tag, and then it is a page of a mapping of its own
+  one_has : (slot index : ℕ) → Fit g v d → IsStuck g.parts
+      → sum_below (λ page. page_has g.parts page slot index) (length g.parts.pages.infos) + sum_below (λ number. slot_has g.parts.cache number slot index) (length g.parts.cache.swap)
+      ≤ one_if (nat_lt index (own_pages (slot_at g.parts.maps slot)))
+  one_has slot index f stuck = elim (cases_eq pages 0) [
+    | inl no_page ↦ elim (cases_eq swaps 0) [
+      | inl no_slot ↦ omega (arith, no_page, no_slot)
+      | inr some ↦ omega (arith, no_page, swaps_most, place_of_swap (some_swap some))
+    ]
+    | inr some ↦ elim (cases_eq swaps 0) [
+      | inl no_slot ↦ omega (arith, no_slot, pages_most, place_of_page (some_page some))
+      | inr more ↦ absurd (never (some_page some) (some_swap more))
+    ]
   ]
-  | inr some ↦ elim (cases_eq swaps 0) [
-    | inl no_slot ↦ omega (arith, no_slot, pages_most, place_of_page (some_page some))
-    | inr more ↦ absurd (never (some_page some) (some_swap more))
-  ]
-]
-  where
-    pages : ℕ
-    pages = sum_below (λ page. page_has g.parts page slot index) (length g.parts.pages.infos)
+    where
+      pages : ℕ
+      pages = sum_below (λ page. page_has g.parts page slot index) (length g.parts.pages.infos)
 
-    swaps : ℕ
-    swaps = sum_below (λ number. slot_has g.parts.cache number slot index) (length g.parts.cache.swap)
+      swaps : ℕ
+      swaps = sum_below (λ number. slot_has g.parts.cache number slot index) (length g.parts.cache.swap)
 
-    tagged : (page : ℕ) → page_has g.parts page slot index ≢ 0 → (is_pinned (info_at g.parts.pages page) ≡ false) × ((info_at g.parts.pages page).tag ≡ Some (Anon slot index))
-    tagged page some =
-        let both = true_of (not (is_pinned (info_at g.parts.pages page))) (holds_page slot index (info_at g.parts.pages page).tag) some in
-        (not_true (is_pinned (info_at g.parts.pages page)) both.0, holds-is slot index (info_at g.parts.pages page).tag both.1)
+      tagged : (page : ℕ) → page_has g.parts page slot index ≢ 0 → (is_pinned (info_at g.parts.pages page) ≡ false) × ((info_at g.parts.pages page).tag ≡ Some (Anon slot index))
+      tagged page some =
+          let both = true_of (not (is_pinned (info_at g.parts.pages page))) (holds_page slot index (info_at g.parts.pages page).tag) some in
+          (not_true (is_pinned (info_at g.parts.pages page)) both.0, holds-is slot index (info_at g.parts.pages page).tag both.1)
 
-    held : (number : ℕ) → slot_has g.parts.cache number slot index ≢ 0 → swap_tag g.parts.cache number ≡ Some (Anon slot index)
-    held number some = holds-is slot index (swap_tag g.parts.cache number) (true_one (holds_page slot index (swap_tag g.parts.cache number)) some)
+      held : (number : ℕ) → slot_has g.parts.cache number slot index ≢ 0 → swap_tag g.parts.cache number ≡ Some (Anon slot index)
+      held number some = holds-is slot index (swap_tag g.parts.cache number) (true_one (holds_page slot index (swap_tag g.parts.cache number)) some)
 
-    same_page : (p q : ℕ) → (info_at g.parts.pages p).tag ≡ Some (Anon slot index) → (info_at g.parts.pages q).tag ≡ Some (Anon slot index) → p ≡ q
-    same_page p q a b = let both : Some p ≡ Some q = sym (f.pages.indexed p (Anon slot index) a).1 ∙ (f.pages.indexed q (Anon slot index) b).1 in cc
+      same_page : (p q : ℕ) → (info_at g.parts.pages p).tag ≡ Some (Anon slot index) → (info_at g.parts.pages q).tag ≡ Some (Anon slot index) → p ≡ q
+      same_page p q a b = let both : Some p ≡ Some q = sym (f.pages.indexed p (Anon slot index) a).1 ∙ (f.pages.indexed q (Anon slot index) b).1 in cc
 
-    pages_most : pages ≤ 1
-    pages_most =
-        sum_below-single (λ page. page_has g.parts page slot index) 1 (length g.parts.pages.infos)
-        (λ page h. one_most (not (is_pinned (info_at g.parts.pages page)) && holds_page slot index (info_at g.parts.pages page).tag))
-        (λ p q hp hq a b. same_page p q (tagged p a).1 (tagged q b).1)
+      pages_most : pages ≤ 1
+      pages_most =
+          sum_below-single (λ page. page_has g.parts page slot index) 1 (length g.parts.pages.infos)
+          (λ page h. one_most (not (is_pinned (info_at g.parts.pages page)) && holds_page slot index (info_at g.parts.pages page).tag))
+          (λ p q hp hq a b. same_page p q (tagged p a).1 (tagged q b).1)
 
-    swaps_most : swaps ≤ 1
-    swaps_most =
-        sum_below-single (λ number. slot_has g.parts.cache number slot index) 1 (length g.parts.cache.swap) (λ number h. one_most (holds_page slot index (swap_tag g.parts.cache number)))
-        (λ p q hp hq a b. f.tags.distinct p q (Anon slot index) (held p a) (held q b))
+      swaps_most : swaps ≤ 1
+      swaps_most =
+          sum_below-single (λ number. slot_has g.parts.cache number slot index) 1 (length g.parts.cache.swap) (λ number h. one_most (holds_page slot index (swap_tag g.parts.cache number)))
+          (λ p q hp hq a b. f.tags.distinct p q (Anon slot index) (held p a) (held q b))
 
-    some_page : pages ≢ 0 → (page : ℕ) × (page < length g.parts.pages.infos) × (page_has g.parts page slot index ≢ 0)
-    some_page some = some_below (λ page. page_has g.parts page slot index) (length g.parts.pages.infos) some
+      some_page : pages ≢ 0 → (page : ℕ) × (page < length g.parts.pages.infos) × (page_has g.parts page slot index ≢ 0)
+      some_page some = some_below (λ page. page_has g.parts page slot index) (length g.parts.pages.infos) some
 
-    some_swap : swaps ≢ 0 → (number : ℕ) × (number < length g.parts.cache.swap) × (slot_has g.parts.cache number slot index ≢ 0)
-    some_swap some = some_below (λ number. slot_has g.parts.cache number slot index) (length g.parts.cache.swap) some
+      some_swap : swaps ≢ 0 → (number : ℕ) × (number < length g.parts.cache.swap) × (slot_has g.parts.cache number slot index ≢ 0)
+      some_swap some = some_below (λ number. slot_has g.parts.cache number slot index) (length g.parts.cache.swap) some
 
-    place : IsUsedTag g.parts.maps (Anon slot index) → 1 ≤ one_if (nat_lt index (own_pages (slot_at g.parts.maps slot)))
-    place is =
-        let k = own_place (flat_of g.plan g.journal) g.parts slot index f.slots is in
-        at_most (sym (ap one_if (lt-ltb index (own_pages (slot_at g.parts.maps slot)) k.within)))
+      place : IsUsedTag g.parts.maps (Anon slot index) → 1 ≤ one_if (nat_lt index (own_pages (slot_at g.parts.maps slot)))
+      place is =
+          let k = own_place (flat_of g.plan g.journal) g.parts slot index f.slots is in
+          at_most (sym (ap one_if (lt-ltb index (own_pages (slot_at g.parts.maps slot)) k.within)))
 
-    place_of_page : (page : ℕ) × (page < length g.parts.pages.infos) × (page_has g.parts page slot index ≢ 0) → 1 ≤ one_if (nat_lt index (own_pages (slot_at g.parts.maps slot)))
-    place_of_page (page, below, some) = place (f.tags.pages page (Anon slot index) (tagged page some).1)
+      place_of_page : (page : ℕ) × (page < length g.parts.pages.infos) × (page_has g.parts page slot index ≢ 0) → 1 ≤ one_if (nat_lt index (own_pages (slot_at g.parts.maps slot)))
+      place_of_page (page, below, some) = place (f.tags.pages page (Anon slot index) (tagged page some).1)
 
-    place_of_swap : (number : ℕ) × (number < length g.parts.cache.swap) × (slot_has g.parts.cache number slot index ≢ 0) → 1 ≤ one_if (nat_lt index (own_pages (slot_at g.parts.maps slot)))
-    place_of_swap (number, below, some) = place (f.tags.swapped number (Anon slot index) (held number some)).1
+      place_of_swap : (number : ℕ) × (number < length g.parts.cache.swap) × (slot_has g.parts.cache number slot index ≢ 0) → 1 ≤ one_if (nat_lt index (own_pages (slot_at g.parts.maps slot)))
+      place_of_swap (number, below, some) = place (f.tags.swapped number (Anon slot index) (held number some)).1
 
-    never : (page : ℕ) × (page < length g.parts.pages.infos) × (page_has g.parts page slot index ≢ 0)
-        → (number : ℕ) × (number < length g.parts.cache.swap) × (slot_has g.parts.cache number slot index ≢ 0) → ⊥
-    never (page, below, some) (number, lt, more) =
-        let its = tagged page some in
-        let u = page_unslotted g.parts page stuck below its.0 in
-        let both : Some (Anon u.slot u.index) ≡ Some (Anon slot index) = sym u.tagged ∙ its.1 in
-        let slots : u.slot ≡ slot = cc in
-        let indexes : u.index ≡ index = cc in
-        swap_slot-nowhere g.parts.cache slot index number ((λ i. swap_slot g.parts.cache (Anon (sym slots i) (sym indexes i))) ∙ u.none) (held number more)
+      never : (page : ℕ) × (page < length g.parts.pages.infos) × (page_has g.parts page slot index ≢ 0)
+          → (number : ℕ) × (number < length g.parts.cache.swap) × (slot_has g.parts.cache number slot index ≢ 0) → ⊥
+      never (page, below, some) (number, lt, more) =
+          let its = tagged page some in
+          let u = page_unslotted g.parts page stuck below its.0 in
+          let both : Some (Anon u.slot u.index) ≡ Some (Anon slot index) = sym u.tagged ∙ its.1 in
+          let slots : u.slot ≡ slot = cc in
+          let indexes : u.index ≡ index = cc in
+          swap_slot-nowhere g.parts.cache slot index number ((λ i. swap_slot g.parts.cache (Anon (sym slots i) (sym indexes i))) ∙ u.none) (held number more)
 
--- ---- all of them together
+  -- ---- all of them together
 
--- in the row of a slot
-row_has : (g : GuestState) (v : StorageView) (d : DiskView) (slot : ℕ) → Fit g v d → IsStuck g.parts
-    → sum_below (λ page. sum_below (page_has g.parts page slot) MAX_MAPPING_PAGES) (length g.parts.pages.infos)
-    + sum_below (λ number. sum_below (slot_has g.parts.cache number slot) MAX_MAPPING_PAGES) (length g.parts.cache.swap) ≤ own_pages (slot_at g.parts.maps slot)
-row_has g v d slot f stuck =
-    let by_page = sum_below-swap (λ page index. page_has g.parts page slot index) (length g.parts.pages.infos) MAX_MAPPING_PAGES in
-    let by_swap = sum_below-swap (λ number index. slot_has g.parts.cache number slot index) (length g.parts.cache.swap) MAX_MAPPING_PAGES in
-    let together = sum_below-add (λ index. sum_below (λ page. page_has g.parts page slot index) (length g.parts.pages.infos))
-    (λ index. sum_below (λ number. slot_has g.parts.cache number slot index) (length g.parts.cache.swap)) MAX_MAPPING_PAGES in
-    let each = sum_below-mono (λ index. sum_below (λ page. page_has g.parts page slot index) (length g.parts.pages.infos)
-    + sum_below (λ number. slot_has g.parts.cache number slot index) (length g.parts.cache.swap)) (λ index. one_if (nat_lt index (own_pages (slot_at g.parts.maps slot)))) MAX_MAPPING_PAGES
-    (λ index h. one_has g v d slot index f stuck) in
-    joined _ _ _ _ _ _ _ by_page by_swap together each (below_row (own_pages (slot_at g.parts.maps slot)) MAX_MAPPING_PAGES).0
-  where
-    joined : (a b c e both rows most : ℕ) → a ≡ c → b ≡ e → both ≡ c + e → both ≤ rows → rows ≤ most → a + b ≤ most
-    joined a b c e both rows most x y z u w = omega (arith, x, y, z, u, w)
+  -- in the row of a slot
+  row_has : (slot : ℕ) → Fit g v d → IsStuck g.parts
+      → sum_below (λ page. sum_below (page_has g.parts page slot) MAX_MAPPING_PAGES) (length g.parts.pages.infos)
+      + sum_below (λ number. sum_below (slot_has g.parts.cache number slot) MAX_MAPPING_PAGES) (length g.parts.cache.swap) ≤ own_pages (slot_at g.parts.maps slot)
+  row_has slot f stuck =
+      let by_page = sum_below-swap (λ page index. page_has g.parts page slot index) (length g.parts.pages.infos) MAX_MAPPING_PAGES in
+      let by_swap = sum_below-swap (λ number index. slot_has g.parts.cache number slot index) (length g.parts.cache.swap) MAX_MAPPING_PAGES in
+      let together = sum_below-add (λ index. sum_below (λ page. page_has g.parts page slot index) (length g.parts.pages.infos))
+      (λ index. sum_below (λ number. slot_has g.parts.cache number slot index) (length g.parts.cache.swap)) MAX_MAPPING_PAGES in
+      let each = sum_below-mono (λ index. sum_below (λ page. page_has g.parts page slot index) (length g.parts.pages.infos)
+      + sum_below (λ number. slot_has g.parts.cache number slot index) (length g.parts.cache.swap)) (λ index. one_if (nat_lt index (own_pages (slot_at g.parts.maps slot)))) MAX_MAPPING_PAGES
+      (λ index h. one_has slot index f stuck) in
+      joined _ _ _ _ _ _ _ by_page by_swap together each (below_row (own_pages (slot_at g.parts.maps slot)) MAX_MAPPING_PAGES).0
+    where
+      joined : (a b c e both rows most : ℕ) → a ≡ c → b ≡ e → both ≡ c + e → both ≤ rows → rows ≤ most → a + b ≤ most
+      joined a b c e both rows most x y z u w = omega (arith, x, y, z, u, w)
 
-page_counts : (g : GuestState) (v : StorageView) (d : DiskView) (page : ℕ) → Fit g v d → IsStuck g.parts → page < length g.parts.pages.infos
-    → one_if (not (is_pinned (info_at g.parts.pages page))) ≤ sum_below (λ slot. sum_below (page_has g.parts page slot) MAX_MAPPING_PAGES) (length g.parts.maps.slots)
-page_counts g v d page f stuck below = of (is_pinned (info_at g.parts.pages page)) refl
-  where
-    of : (b : Bool) → is_pinned (info_at g.parts.pages page) ≡ b
-        → one_if (not (is_pinned (info_at g.parts.pages page))) ≤ sum_below (λ slot. sum_below (page_has g.parts page slot) MAX_MAPPING_PAGES) (length g.parts.maps.slots)
-    of true e = let none : one_if (not (is_pinned (info_at g.parts.pages page))) ≡ 0 = ap (λ b. one_if (not b)) e in omega (arith, none)
-    of false e =
-        let u = page_unslotted g.parts page stuck below e in
-        let k = own_place (flat_of g.plan g.journal) g.parts u.slot u.index f.slots (f.tags.pages page (Anon u.slot u.index) u.tagged) in
-        let has : page_has g.parts page u.slot u.index ≡ 1 =
-        ap (λ b. one_if (not b && holds_page u.slot u.index (info_at g.parts.pages page).tag)) e ∙ ap (λ o. one_if (holds_page u.slot u.index o)) u.tagged ∙ ap one_if (holds-itself u.slot u.index) in
-        at_most-then (at_most-then (one_most (not (is_pinned (info_at g.parts.pages page)))) (at_most (sym has)))
-        (at_place (λ slot index. page_has g.parts page slot index) u.slot u.index (length g.parts.maps.slots) MAX_MAPPING_PAGES k.slot_below k.index_below)
+  page_counts : (page : ℕ) → Fit g v d → IsStuck g.parts → page < length g.parts.pages.infos
+      → one_if (not (is_pinned (info_at g.parts.pages page))) ≤ sum_below (λ slot. sum_below (page_has g.parts page slot) MAX_MAPPING_PAGES) (length g.parts.maps.slots)
+  page_counts page f stuck below = of (is_pinned (info_at g.parts.pages page)) refl
+    where
+      of : (b : Bool) → is_pinned (info_at g.parts.pages page) ≡ b
+          → one_if (not (is_pinned (info_at g.parts.pages page))) ≤ sum_below (λ slot. sum_below (page_has g.parts page slot) MAX_MAPPING_PAGES) (length g.parts.maps.slots)
+      of true e = let none : one_if (not (is_pinned (info_at g.parts.pages page))) ≡ 0 = ap (λ b. one_if (not b)) e in omega (arith, none)
+      of false e =
+          let u = page_unslotted g.parts page stuck below e in
+          let k = own_place (flat_of g.plan g.journal) g.parts u.slot u.index f.slots (f.tags.pages page (Anon u.slot u.index) u.tagged) in
+          let has : page_has g.parts page u.slot u.index ≡ 1 =
+          ap (λ b. one_if (not b && holds_page u.slot u.index (info_at g.parts.pages page).tag)) e
+          ∙ ap (λ o. one_if (holds_page u.slot u.index o)) u.tagged ∙ ap one_if (holds-itself u.slot u.index) in
+          at_most-then (at_most-then (one_most (not (is_pinned (info_at g.parts.pages page)))) (at_most (sym has)))
+          (at_place (λ slot index. page_has g.parts page slot index) u.slot u.index (length g.parts.maps.slots) MAX_MAPPING_PAGES k.slot_below k.index_below)
 
-swap_counts : (g : GuestState) (v : StorageView) (d : DiskView) (number : ℕ) → Fit g v d → is_none (swap_tag g.parts.cache number) ≡ false
-    → 1 ≤ sum_below (λ slot. sum_below (slot_has g.parts.cache number slot) MAX_MAPPING_PAGES) (length g.parts.maps.slots)
-swap_counts g v d number f assigned = of (swap_tag g.parts.cache number) refl
-  where
-    of : (o : Option Tag) → swap_tag g.parts.cache number ≡ o → 1 ≤ sum_below (λ slot. sum_below (slot_has g.parts.cache number slot) MAX_MAPPING_PAGES) (length g.parts.maps.slots)
-    of None e = let bad : true ≡ false = ap (λ (o : Option Tag). is_none o) (sym e) ∙ assigned in absurd cc
-    of (Some (File file index)) e = absurd (f.tags.swapped number (File file index) e).0
-    of (Some (Anon slot index)) e =
-        let k = own_place (flat_of g.plan g.journal) g.parts slot index f.slots (f.tags.swapped number (Anon slot index) e).1 in
-        let has : slot_has g.parts.cache number slot index ≡ 1 = ap (λ o. one_if (holds_page slot index o)) e ∙ ap one_if (holds-itself slot index) in
-        at_most-then (at_most (sym has)) (at_place (λ s i. slot_has g.parts.cache number s i) slot index (length g.parts.maps.slots) MAX_MAPPING_PAGES k.slot_below k.index_below)
+  swap_counts : (number : ℕ) → Fit g v d → is_none (swap_tag g.parts.cache number) ≡ false
+      → 1 ≤ sum_below (λ slot. sum_below (slot_has g.parts.cache number slot) MAX_MAPPING_PAGES) (length g.parts.maps.slots)
+  swap_counts number f assigned = of (swap_tag g.parts.cache number) refl
+    where
+      of : (o : Option Tag) → swap_tag g.parts.cache number ≡ o → 1 ≤ sum_below (λ slot. sum_below (slot_has g.parts.cache number slot) MAX_MAPPING_PAGES) (length g.parts.maps.slots)
+      of None e = let bad : true ≡ false = ap (λ (o : Option Tag). is_none o) (sym e) ∙ assigned in absurd cc
+      of (Some (File file index)) e = absurd (f.tags.swapped number (File file index) e).0
+      of (Some (Anon slot index)) e =
+          let k = own_place (flat_of g.plan g.journal) g.parts slot index f.slots (f.tags.swapped number (Anon slot index) e).1 in
+          let has : slot_has g.parts.cache number slot index ≡ 1 = ap (λ o. one_if (holds_page slot index o)) e ∙ ap one_if (holds-itself slot index) in
+          at_most-then (at_most (sym has)) (at_place (λ s i. slot_has g.parts.cache number s i) slot index (length g.parts.maps.slots) MAX_MAPPING_PAGES k.slot_below k.index_below)
 
-pub own_counted : (g : GuestState) (v : StorageView) (d : DiskView) → Fit g v d → IsStuck g.parts
-    → ((number : ℕ) → number < length g.parts.cache.swap → is_none (swap_tag g.parts.cache number) ≡ false)
-    → length g.parts.pages.infos - pinned_count g.parts + length g.parts.cache.swap ≤ sum_below (λ slot. own_pages (slot_at g.parts.maps slot)) (length g.parts.maps.slots)
-own_counted g v d f stuck assigned =
-    let opposite = both_counted (λ page. is_pinned (info_at g.parts.pages page)) (length g.parts.pages.infos) in
-    let pinned = count_below is_pinned free_info g.parts.pages.infos in
-    let pages = sum_below-mono (λ page. one_if (not (is_pinned (info_at g.parts.pages page)))) (λ page. sum_below (λ slot. sum_below (page_has g.parts page slot) MAX_MAPPING_PAGES) slots)
-    (length g.parts.pages.infos) (λ page h. page_counts g v d page f stuck h) in
-    let swaps = sum_below-mono (λ number. 1) (λ number. sum_below (λ slot. sum_below (slot_has g.parts.cache number slot) MAX_MAPPING_PAGES) slots) (length g.parts.cache.swap)
-    (λ number h. swap_counts g v d number f (assigned number h)) in
-    let by_page = sum_below-swap (λ page slot. sum_below (page_has g.parts page slot) MAX_MAPPING_PAGES) (length g.parts.pages.infos) slots in
-    let by_swap = sum_below-swap (λ number slot. sum_below (slot_has g.parts.cache number slot) MAX_MAPPING_PAGES) (length g.parts.cache.swap) slots in
-    let together = sum_below-add (λ slot. sum_below (λ page. sum_below (page_has g.parts page slot) MAX_MAPPING_PAGES) (length g.parts.pages.infos))
-    (λ slot. sum_below (λ number. sum_below (slot_has g.parts.cache number slot) MAX_MAPPING_PAGES) (length g.parts.cache.swap)) slots in
-    let rows = sum_below-mono (λ slot. sum_below (λ page. sum_below (page_has g.parts page slot) MAX_MAPPING_PAGES) (length g.parts.pages.infos)
-    + sum_below (λ number. sum_below (slot_has g.parts.cache number slot) MAX_MAPPING_PAGES) (length g.parts.cache.swap)) (λ slot. own_pages (slot_at g.parts.maps slot)) slots
-    (λ slot h. row_has g v d slot f stuck) in
-    joined _ _ _ _ _ _ _ _ _ _ _ _ opposite pinned pages swaps (ones (length g.parts.cache.swap)) by_page by_swap together rows
-  where
-    slots : ℕ
-    slots = length g.parts.maps.slots
+  pub own_counted : Fit g v d → IsStuck g.parts → ((number : ℕ) → number < length g.parts.cache.swap → is_none (swap_tag g.parts.cache number) ≡ false)
+      → length g.parts.pages.infos - pinned_count g.parts + length g.parts.cache.swap ≤ sum_below (λ slot. own_pages (slot_at g.parts.maps slot)) (length g.parts.maps.slots)
+  own_counted f stuck assigned =
+      let opposite = both_counted (λ page. is_pinned (info_at g.parts.pages page)) (length g.parts.pages.infos) in
+      let pinned = count_below is_pinned free_info g.parts.pages.infos in
+      let pages = sum_below-mono (λ page. one_if (not (is_pinned (info_at g.parts.pages page)))) (λ page. sum_below (λ slot. sum_below (page_has g.parts page slot) MAX_MAPPING_PAGES) slots)
+      (length g.parts.pages.infos) (λ page h. page_counts page f stuck h) in
+      let swaps = sum_below-mono (λ number. 1) (λ number. sum_below (λ slot. sum_below (slot_has g.parts.cache number slot) MAX_MAPPING_PAGES) slots) (length g.parts.cache.swap)
+      (λ number h. swap_counts number f (assigned number h)) in
+      let by_page = sum_below-swap (λ page slot. sum_below (page_has g.parts page slot) MAX_MAPPING_PAGES) (length g.parts.pages.infos) slots in
+      let by_swap = sum_below-swap (λ number slot. sum_below (slot_has g.parts.cache number slot) MAX_MAPPING_PAGES) (length g.parts.cache.swap) slots in
+      let together = sum_below-add (λ slot. sum_below (λ page. sum_below (page_has g.parts page slot) MAX_MAPPING_PAGES) (length g.parts.pages.infos))
+      (λ slot. sum_below (λ number. sum_below (slot_has g.parts.cache number slot) MAX_MAPPING_PAGES) (length g.parts.cache.swap)) slots in
+      let rows = sum_below-mono (λ slot. sum_below (λ page. sum_below (page_has g.parts page slot) MAX_MAPPING_PAGES) (length g.parts.pages.infos)
+      + sum_below (λ number. sum_below (slot_has g.parts.cache number slot) MAX_MAPPING_PAGES) (length g.parts.cache.swap)) (λ slot. own_pages (slot_at g.parts.maps slot)) slots
+      (λ slot h. row_has slot f stuck) in
+      joined _ _ _ _ _ _ _ _ _ _ _ _ opposite pinned pages swaps (ones (length g.parts.cache.swap)) by_page by_swap together rows
+    where
+      slots : ℕ
+      slots = length g.parts.maps.slots
 
-    ones : (n : ℕ) → sum_below (λ i. 1) n ≡ n
-    ones zero = refl
-    ones (suc n) = omega (arith, ones n)
+      ones : (n : ℕ) → sum_below (λ i. 1) n ≡ n
+      ones zero = refl
+      ones (suc n) = omega (arith, ones n)
 
-    joined : (count pins others pinned pages swap one swaps c e both rows : ℕ) → pins + others ≡ count → pinned ≡ pins → others ≤ pages → one ≤ swaps → one ≡ swap → pages ≡ c → swaps ≡ e
-        → both ≡ c + e → both ≤ rows → count - pinned + swap ≤ rows
-    joined count pins others pinned pages swap one swaps c e both rows a b x y z p q t u = omega (arith, a, b, x, y, z, p, q, t, u)
+      joined : (count pins others pinned pages swap one swaps c e both rows : ℕ) → pins + others ≡ count → pinned ≡ pins → others ≤ pages → one ≤ swaps → one ≡ swap → pages ≡ c → swaps ≡ e
+          → both ≡ c + e → both ≤ rows → count - pinned + swap ≤ rows
+      joined count pins others pinned pages swap one swaps c e both rows a b x y z p q t u = omega (arith, a, b, x, y, z, p, q, t, u)
 
 -- ---- and these are the flat machine's, and those that unmaps have ended
 

@@ -72,43 +72,45 @@ stores_here page false = refl
 stores_elsewhere : (page i : ℕ) (writes : Bool) → i ≢ page → stores_to i (Some (record { page = page; writable = writes })) ≡ false
 stores_elsewhere page i writes n = ap (λ q. writes && q) (false_from_ne_true (page == i) (λ t. n (sym (eqb-true page i t)))) ∙ and_false writes
 
--- the page that the entry shows has one writer more where the entry allows stores
-pub writers-with_entry_same : (maps : MapsView) (slot index page : ℕ) (writes : Bool) → place_at slot index < length maps.entries → CanBeSet (entry_at maps slot index) writes
-    → writers_showing (with_entry maps slot index (Some (record { page = page; writable = writes }))) page ≡ writers_showing maps page + one_if writes
-unfolding with_entry
-writers-with_entry_same maps slot index page writes below can =
-    let moved = count_by-set (stores_to page) maps.entries (place_at slot index) (Some (record { page = page; writable = writes })) below in
-    let old : one_where (stores_to page (entry_at maps slot index)) ≡ 0 = ap one_where (old_stores writes page (entry_at maps slot index) can) in
-    omega (arith, moved, old, stores_here page writes)
+-- maps the mappings, slot the slot of a mapping, index a page of it
+module _ (maps : MapsView) (slot index : ℕ) where
+  -- the page that the entry shows has one writer more where the entry allows stores
+  pub writers-with_entry_same : (page : ℕ) (writes : Bool) → place_at slot index < length maps.entries → CanBeSet (entry_at maps slot index) writes
+      → writers_showing (with_entry maps slot index (Some (record { page = page; writable = writes }))) page ≡ writers_showing maps page + one_if writes
+  unfolding with_entry
+  writers-with_entry_same page writes below can =
+      let moved = count_by-set (stores_to page) maps.entries (place_at slot index) (Some (record { page = page; writable = writes })) below in
+      let old : one_where (stores_to page (entry_at maps slot index)) ≡ 0 = ap one_where (old_stores writes page (entry_at maps slot index) can) in
+      omega (arith, moved, old, stores_here page writes)
 
-pub writers-with_entry_other : (maps : MapsView) (slot index page i : ℕ) (writes : Bool) → place_at slot index < length maps.entries → CanBeSet (entry_at maps slot index) writes → i ≢ page
-    → writers_showing (with_entry maps slot index (Some (record { page = page; writable = writes }))) i ≡ writers_showing maps i
-unfolding with_entry
-writers-with_entry_other maps slot index page i writes below can n =
-    let moved = count_by-set (stores_to i) maps.entries (place_at slot index) (Some (record { page = page; writable = writes })) below in
-    let old : one_where (stores_to i (entry_at maps slot index)) ≡ 0 = ap one_where (old_stores writes i (entry_at maps slot index) can) in
-    let new : one_where (stores_to i (Some (record { page = page; writable = writes }))) ≡ 0 = ap one_where (stores_elsewhere page i writes n) in
-    omega (arith, moved, old, new)
+  pub writers-with_entry_other : (page i : ℕ) (writes : Bool) → place_at slot index < length maps.entries → CanBeSet (entry_at maps slot index) writes → i ≢ page
+      → writers_showing (with_entry maps slot index (Some (record { page = page; writable = writes }))) i ≡ writers_showing maps i
+  unfolding with_entry
+  writers-with_entry_other page i writes below can n =
+      let moved = count_by-set (stores_to i) maps.entries (place_at slot index) (Some (record { page = page; writable = writes })) below in
+      let old : one_where (stores_to i (entry_at maps slot index)) ≡ 0 = ap one_where (old_stores writes i (entry_at maps slot index) can) in
+      let new : one_where (stores_to i (Some (record { page = page; writable = writes }))) ≡ 0 = ap one_where (stores_elsewhere page i writes n) in
+      omega (arith, moved, old, new)
 
--- a page that an entry allows stores to has a writer
-pub some_writer : (maps : MapsView) (slot index page : ℕ) → entry_at maps slot index ≡ Some (record { page = page; writable = true }) → 1 ≤ writers_showing maps page
-some_writer maps slot index page e = count_by-positive (stores_to page) maps.entries (place_at slot index) refl (ap (stores_to page) e ∙ same_number page)
+  -- a page that an entry allows stores to has a writer
+  pub some_writer : (page : ℕ) → entry_at maps slot index ≡ Some (record { page = page; writable = true }) → 1 ≤ writers_showing maps page
+  some_writer page e = count_by-positive (stores_to page) maps.entries (place_at slot index) refl (ap (stores_to page) e ∙ same_number page)
 
--- ---- an entry is cleared
+  -- ---- an entry is cleared
 
--- the page that it showed has one writer less where it allowed stores
-pub writers-cleared_same : (maps : MapsView) (slot index : ℕ) (pte : Pte) → place_at slot index < length maps.entries → entry_at maps slot index ≡ Some pte
-    → writers_showing (with_entry maps slot index None) pte.page + one_if pte.writable ≡ writers_showing maps pte.page
-unfolding with_entry
-writers-cleared_same maps slot index pte below e =
-    let moved = count_by-set (stores_to pte.page) maps.entries (place_at slot index) None below in
-    let old : one_where (stores_to pte.page (entry_at maps slot index)) ≡ one_if pte.writable = ap (λ o. one_where (stores_to pte.page o)) e ∙ stores_here pte.page pte.writable in
-    omega (arith, moved, old)
+  -- the page that it showed has one writer less where it allowed stores
+  pub writers-cleared_same : (pte : Pte) → place_at slot index < length maps.entries → entry_at maps slot index ≡ Some pte
+      → writers_showing (with_entry maps slot index None) pte.page + one_if pte.writable ≡ writers_showing maps pte.page
+  unfolding with_entry
+  writers-cleared_same pte below e =
+      let moved = count_by-set (stores_to pte.page) maps.entries (place_at slot index) None below in
+      let old : one_where (stores_to pte.page (entry_at maps slot index)) ≡ one_if pte.writable = ap (λ o. one_where (stores_to pte.page o)) e ∙ stores_here pte.page pte.writable in
+      omega (arith, moved, old)
 
-pub writers-cleared_other : (maps : MapsView) (slot index i : ℕ) (pte : Pte) → place_at slot index < length maps.entries → entry_at maps slot index ≡ Some pte → i ≢ pte.page
-    → writers_showing (with_entry maps slot index None) i ≡ writers_showing maps i
-unfolding with_entry
-writers-cleared_other maps slot index i pte below e n =
-    let moved = count_by-set (stores_to i) maps.entries (place_at slot index) None below in
-    let old : one_where (stores_to i (entry_at maps slot index)) ≡ 0 = ap (λ o. one_where (stores_to i o)) e ∙ ap one_where (stores_elsewhere pte.page i pte.writable n) in
-    omega (arith, moved, old)
+  pub writers-cleared_other : (i : ℕ) (pte : Pte) → place_at slot index < length maps.entries → entry_at maps slot index ≡ Some pte → i ≢ pte.page
+      → writers_showing (with_entry maps slot index None) i ≡ writers_showing maps i
+  unfolding with_entry
+  writers-cleared_other i pte below e n =
+      let moved = count_by-set (stores_to i) maps.entries (place_at slot index) None below in
+      let old : one_where (stores_to i (entry_at maps slot index)) ≡ 0 = ap (λ o. one_where (stores_to i o)) e ∙ ap one_where (stores_elsewhere pte.page i pte.writable n) in
+      omega (arith, moved, old)

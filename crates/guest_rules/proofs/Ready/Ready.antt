@@ -70,44 +70,43 @@ is_used_filled parts page tag below tagged =
     let more = length-with_info (with_info parts.pages page fresh) page (record (info_at (with_info parts.pages page fresh) page) { owner = None }) in
     is_used (filled parts page) page tag (rw (more, size) below) (ap (λ q. q.tag) (info-filled parts page below) ∙ tagged)
 
-pub below_view : (state : FlatState) (g : GuestState) (v : StorageView) (d : DiskView) (page : ℕ) → FitAt state g v d → page < length g.parts.pages.infos → page < v.pages
-below_view state g v d page f h = omega (arith, h, f.sizes.infos, f.sizes.pages)
+-- state the flat machine's state, g the guest, v its storage, d its disk, page the page
+module _ (state : FlatState) (g : GuestState) (v : StorageView) (d : DiskView) (page : ℕ) where
+  pub below_view : FitAt state g v d → page < length g.parts.pages.infos → page < v.pages
+  below_view f h = omega (arith, h, f.sizes.infos, f.sizes.pages)
 
-pub found_page : (state : FlatState) (g : GuestState) (v : StorageView) (d : DiskView) (page : ℕ) (tag : Tag) → FitAt state g v d → IsTag g.parts.cache tag
-    → page_of g.parts.cache tag ≡ Some page → (info_at g.parts.pages page).owner ≡ None → HasPage g tag page
-found_page state g v d page tag f is_tag found unlocked =
-    let k = f.pages.found page tag is_tag found in record { below = k.0; tagged = k.1; unlocked = unlocked }
+  pub found_page : (tag : Tag) → FitAt state g v d → IsTag g.parts.cache tag → page_of g.parts.cache tag ≡ Some page → (info_at g.parts.pages page).owner ≡ None → HasPage g tag page
+  found_page tag f is_tag found unlocked =
+      let k = f.pages.found page tag is_tag found in record { below = k.0; tagged = k.1; unlocked = unlocked }
 
--- an unlocked page is up to date
-pub has_shows : (state : FlatState) (g : GuestState) (v : StorageView) (d : DiskView) (page : ℕ) (tag : Tag) → FitAt state g v d → HasPage g tag page → ShowsPage g tag page
-has_shows state g v d page tag f has = record { below = has.below; tagged = has.tagged; uptodate = f.locks.stale page tag has.tagged has.unlocked }
+  -- an unlocked page is up to date
+  pub has_shows : (tag : Tag) → FitAt state g v d → HasPage g tag page → ShowsPage g tag page
+  has_shows tag f has = record { below = has.below; tagged = has.tagged; uptodate = f.locks.stale page tag has.tagged has.unlocked }
 
-pub can_be_shown : (state : FlatState) (g : GuestState) (v : StorageView) (d : DiskView) (page : ℕ) (tag : Tag) → FitAt state g v d → ShowsPage g tag page → CanBeUsed g.parts page v
-can_be_shown state g v d page tag f shows =
-    let below = below_view state g v d page f shows.below in
-    record {
-      tells = f.contents.tells;
-      hinted = is_used g.parts page tag shows.below shows.tagged;
-      usage = λ bad. hint-tagged (info_at g.parts.pages page) tag shows.tagged (sym (f.hints.hints page below) ∙ bad);
-      filled = f.contents.not_blank page tag below shows.tagged shows.uptodate;
-    }
+  pub can_be_shown : (tag : Tag) → FitAt state g v d → ShowsPage g tag page → CanBeUsed g.parts page v
+  can_be_shown tag f shows =
+      let below = below_view f shows.below in
+      record {
+        tells = f.contents.tells;
+        hinted = is_used g.parts page tag shows.below shows.tagged;
+        usage = λ bad. hint-tagged (info_at g.parts.pages page) tag shows.tagged (sym (f.hints.hints page below) ∙ bad);
+        filled = f.contents.not_blank page tag below shows.tagged shows.uptodate;
+      }
 
-pub can_be_used : (state : FlatState) (g : GuestState) (v : StorageView) (d : DiskView) (page : ℕ) (tag : Tag) → FitAt state g v d → HasPage g tag page → CanBeUsed g.parts page v
-can_be_used state g v d page tag f has = can_be_shown state g v d page tag f (has_shows state g v d page tag f has)
+  pub can_be_used : (tag : Tag) → FitAt state g v d → HasPage g tag page → CanBeUsed g.parts page v
+  can_be_used tag f has = can_be_shown tag f (has_shows tag f has)
 
--- a locked page is stable, so a page that the host discarded isn't locked
-pub lost_unlocked : (state : FlatState) (g : GuestState) (v : StorageView) (d : DiskView) (page : ℕ) (tag : Tag) (found : PageValue) → FitAt state g v d → ShowsPage g tag page
-    → MayBecome (v.values page) found
-    → is_lost found.contents ≡ true → HasPage g tag page
-lost_unlocked state g v d page tag found f shows may lost = record { below = shows.below; tagged = shows.tagged; unlocked = of (info_at g.parts.pages page).owner refl }
-  where
-    of : (owner : Option ℕ) → (info_at g.parts.pages page).owner ≡ owner → (info_at g.parts.pages page).owner ≡ None
-    of None e = e
-    of (Some cpu) e =
-        let below = below_view state g v d page f shows.below in
-        let usage : (v.values page).usage ≡ S = f.hints.hints page below ∙ hint_locked (info_at g.parts.pages page) tag cpu shows.tagged e in
-        let same = may_stable (v.values page) found usage may in
-        let bad : true ≡ false = sym lost ∙ ap (λ q. is_lost q.contents) same ∙ stable_there (v.values page) usage (f.hints.values page below) in absurd cc
+  -- a locked page is stable, so a page that the host discarded isn't locked
+  pub lost_unlocked : (tag : Tag) (found : PageValue) → FitAt state g v d → ShowsPage g tag page → MayBecome (v.values page) found → is_lost found.contents ≡ true → HasPage g tag page
+  lost_unlocked tag found f shows may lost = record { below = shows.below; tagged = shows.tagged; unlocked = of (info_at g.parts.pages page).owner refl }
+    where
+      of : (owner : Option ℕ) → (info_at g.parts.pages page).owner ≡ owner → (info_at g.parts.pages page).owner ≡ None
+      of None e = e
+      of (Some cpu) e =
+          let below = below_view f shows.below in
+          let usage : (v.values page).usage ≡ S = f.hints.hints page below ∙ hint_locked (info_at g.parts.pages page) tag cpu shows.tagged e in
+          let same = may_stable (v.values page) found usage may in
+          let bad : true ≡ false = sym lost ∙ ap (λ q. is_lost q.contents) same ∙ stable_there (v.values page) usage (f.hints.values page below) in absurd cc
 
 -- a processor has locked the page to write it back, for a sync or to make room, and its tag has a block
 pub record HasToWrite (g : GuestState) (cpu page : ℕ) (tag : Tag) : Type 0 where
@@ -129,44 +128,45 @@ paging_out-has g cpu page k = record {
   backs = k.backs;
 }
 
--- such a page can be written
-pub can_write_out : (state : FlatState) (g : GuestState) (v : StorageView) (d : DiskView) (cpu page : ℕ) (tag : Tag) → FitAt state g v d → HasToWrite g cpu page tag → CanBeWritten g.parts page tag v
-can_write_out state g v d cpu page tag f k =
-    let its = k.locked in
-    let below = below_view state g v d page f its.below in
-    let clean = change-cleaned g.parts page its.below in
-    let dirty = change-unlocked g.parts page its.below in
-    record {
-      tells = f.contents.tells;
-      usage = f.hints.hints page below ∙ hint_locked (info_at g.parts.pages page) tag cpu its.tagged its.owner;
-      value = f.hints.values page below;
-      filled = f.contents.not_blank page tag below its.tagged its.uptodate;
-      backed_at = rw its.tagged refl;
-      block = k.block;
-      backs = k.backs;
-      used_clean = is_used (cleaned g.parts page) page tag (rw clean.size its.below) (ap (λ (i : PageInfo). i.tag) clean.here ∙ its.tagged);
-      used_dirty = is_used (unlocked g.parts page) page tag (rw dirty.size its.below) (ap (λ (i : PageInfo). i.tag) dirty.here ∙ its.tagged);
-    }
+-- state the flat machine's state, g the guest, v its storage, d its disk, cpu the processor
+module _ (state : FlatState) (g : GuestState) (v : StorageView) (d : DiskView) (cpu : ℕ) where
+  -- such a page can be written
+  pub can_write_out : (page : ℕ) (tag : Tag) → FitAt state g v d → HasToWrite g cpu page tag → CanBeWritten g.parts page tag v
+  can_write_out page tag f k =
+      let its = k.locked in
+      let below = below_view state g v d page f its.below in
+      let clean = change-cleaned g.parts page its.below in
+      let dirty = change-unlocked g.parts page its.below in
+      record {
+        tells = f.contents.tells;
+        usage = f.hints.hints page below ∙ hint_locked (info_at g.parts.pages page) tag cpu its.tagged its.owner;
+        value = f.hints.values page below;
+        filled = f.contents.not_blank page tag below its.tagged its.uptodate;
+        backed_at = rw its.tagged refl;
+        block = k.block;
+        backs = k.backs;
+        used_clean = is_used (cleaned g.parts page) page tag (rw clean.size its.below) (ap (λ (i : PageInfo). i.tag) clean.here ∙ its.tagged);
+        used_dirty = is_used (unlocked g.parts page) page tag (rw dirty.size its.below) (ap (λ (i : PageInfo). i.tag) dirty.here ∙ its.tagged);
+      }
 
-pub can_be_written : (state : FlatState) (g : GuestState) (v : StorageView) (d : DiskView) (cpu index page : ℕ) → FitAt state g v d → (k : IsWriting g cpu index page)
-    → CanBeWritten g.parts page (File k.file index) v
-can_be_written state g v d cpu index page f k = can_write_out state g v d cpu page (File k.file index) f (writing-has g cpu index page k)
+  pub can_be_written : (index page : ℕ) → FitAt state g v d → (k : IsWriting g cpu index page) → CanBeWritten g.parts page (File k.file index) v
+  can_be_written index page f k = can_write_out page (File k.file index) f (writing-has g cpu index page k)
 
-pub can_be_paged_out : (state : FlatState) (g : GuestState) (v : StorageView) (d : DiskView) (cpu page : ℕ) → FitAt state g v d → (k : IsPagingOut g cpu page) → CanBeWritten g.parts page k.tag v
-can_be_paged_out state g v d cpu page f k = can_write_out state g v d cpu page k.tag f (paging_out-has g cpu page k)
+  pub can_be_paged_out : (page : ℕ) → FitAt state g v d → (k : IsPagingOut g cpu page) → CanBeWritten g.parts page k.tag v
+  can_be_paged_out page f k = can_write_out page k.tag f (paging_out-has g cpu page k)
 
-pub can_be_filled : (state : FlatState) (g : GuestState) (v : StorageView) (d : DiskView) (cpu page : ℕ) → FitAt state g v d → (processor_at g cpu).phase ≡ Fill page → CanBeFilled g.parts page v d
-can_be_filled state g v d cpu page f phase =
-    let k = (f.locks.filling cpu page phase).1 in
-    let below = below_view state g v d page f k.below in
-    let info = info-filled g.parts page k.below in
-    record {
-      tells = f.contents.tells;
-      told = f.contents.told;
-      usage = f.hints.hints page below ∙ hint_locked (info_at g.parts.pages page) k.tag cpu k.tagged k.owner;
-      value = f.hints.values page below;
-      used = is_used_filled g.parts page k.tag k.below k.tagged;
-      hinted = ap hint info
-          ∙ hint_clean (record (info_at g.parts.pages page) { uptodate = true; owner = None }) k.tag k.tagged refl (f.locks.stale_clean page k.stale) refl
-          (stale-unpinned g.parts page k.tag f.pins f.pages k.tagged k.stale) (stale-unshown g.parts page f.entries k.stale);
-    }
+  pub can_be_filled : (page : ℕ) → FitAt state g v d → (processor_at g cpu).phase ≡ Fill page → CanBeFilled g.parts page v d
+  can_be_filled page f phase =
+      let k = (f.locks.filling cpu page phase).1 in
+      let below = below_view state g v d page f k.below in
+      let info = info-filled g.parts page k.below in
+      record {
+        tells = f.contents.tells;
+        told = f.contents.told;
+        usage = f.hints.hints page below ∙ hint_locked (info_at g.parts.pages page) k.tag cpu k.tagged k.owner;
+        value = f.hints.values page below;
+        used = is_used_filled g.parts page k.tag k.below k.tagged;
+        hinted = ap hint info
+            ∙ hint_clean (record (info_at g.parts.pages page) { uptodate = true; owner = None }) k.tag k.tagged refl (f.locks.stale_clean page k.stale) refl
+            (stale-unpinned g.parts page k.tag f.pins f.pages k.tagged k.stale) (stale-unshown g.parts page f.entries k.stale);
+      }

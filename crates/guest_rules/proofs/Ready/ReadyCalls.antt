@@ -66,110 +66,109 @@ pub record CanBeUsed (g : GuestState) (v : StorageView) (page : ℕ) : Type 0 wh
   pub not_free : Contains g.parts.pages.free page → ⊥
   pub tag : IfSome (info_at g.parts.pages page).tag (λ tag. IsTag g.parts.cache tag)
 
-tagged-usable : (g : GuestState) (v : StorageView) (d : DiskView) (page : ℕ) (tag : Tag) → Fit g v d → (info_at g.parts.pages page).tag ≡ Some tag → CanBeUsed g v page
-tagged-usable g v d page tag f tagged =
-    let below = tagged-below g.parts.pages page tag tagged in
-    record { page_below = below; pages_below = below_view (flat_of g.plan g.journal) g v d page f below; not_free = tagged-not_free g v d page tag f tagged; tag = tag-is_tag g v d page f }
+-- g the guest, v its storage, d its disk
+module _ (g : GuestState) (v : StorageView) (d : DiskView) where
+  tagged-usable : (page : ℕ) (tag : Tag) → Fit g v d → (info_at g.parts.pages page).tag ≡ Some tag → CanBeUsed g v page
+  tagged-usable page tag f tagged =
+      let below = tagged-below g.parts.pages page tag tagged in
+      record { page_below = below; pages_below = below_view (flat_of g.plan g.journal) g v d page f below; not_free = tagged-not_free g v d page tag f tagged; tag = tag-is_tag g v d page f }
 
--- a page that the index has
-pub found-usable : (g : GuestState) (v : StorageView) (d : DiskView) (page : ℕ) (tag : Tag) → Fit g v d → IsTag g.parts.cache tag → page_of g.parts.cache tag ≡ Some page → CanBeUsed g v page
-found-usable g v d page tag f is found = tagged-usable g v d page tag f (f.pages.found page tag is found).1
+  -- a page that the index has
+  pub found-usable : (page : ℕ) (tag : Tag) → Fit g v d → IsTag g.parts.cache tag → page_of g.parts.cache tag ≡ Some page → CanBeUsed g v page
+  found-usable page tag f is found = tagged-usable page tag f (f.pages.found page tag is found).1
 
--- a page that a processor fills
-pub filling-usable : (g : GuestState) (v : StorageView) (d : DiskView) (cpu page : ℕ) → Fit g v d → (processor_at g cpu).phase ≡ Fill page → CanBeUsed g v page
-filling-usable g v d cpu page f phase = let k = (f.locks.filling cpu page phase).1 in tagged-usable g v d page k.tag f k.tagged
+  -- a page that a processor fills
+  pub filling-usable : (cpu page : ℕ) → Fit g v d → (processor_at g cpu).phase ≡ Fill page → CanBeUsed g v page
+  filling-usable cpu page f phase = let k = (f.locks.filling cpu page phase).1 in tagged-usable page k.tag f k.tagged
 
--- a page that a processor writes back
-pub writing-usable : (g : GuestState) (v : StorageView) (d : DiskView) (cpu index page : ℕ) → Fit g v d → (processor_at g cpu).phase ≡ SyncWrite index page → CanBeUsed g v page
-writing-usable g v d cpu index page f phase = let k = f.locks.writing cpu index page phase in tagged-usable g v d page (File k.file index) f k.tagged
+  -- a page that a processor writes back
+  pub writing-usable : (cpu index page : ℕ) → Fit g v d → (processor_at g cpu).phase ≡ SyncWrite index page → CanBeUsed g v page
+  writing-usable cpu index page f phase = let k = f.locks.writing cpu index page phase in tagged-usable page (File k.file index) f k.tagged
 
--- it is stable
-pub writing-stable : (g : GuestState) (v : StorageView) (d : DiskView) (cpu index page : ℕ) → Fit g v d → (processor_at g cpu).phase ≡ SyncWrite index page → (v.values page).usage ≡ S
-writing-stable g v d cpu index page f phase = (can_be_written (flat_of g.plan g.journal) g v d cpu index page f (f.locks.writing cpu index page phase)).usage
+  -- it is stable
+  pub writing-stable : (cpu index page : ℕ) → Fit g v d → (processor_at g cpu).phase ≡ SyncWrite index page → (v.values page).usage ≡ S
+  writing-stable cpu index page f phase = (can_be_written (flat_of g.plan g.journal) g v d cpu index page f (f.locks.writing cpu index page phase)).usage
 
--- the page of the entry that a load or store finds
-pub entry-usable : (g : GuestState) (v : StorageView) (d : DiskView) (cpu : ℕ) (op : Op) (writes : Bool) (slot off : ℕ) (pte : Pte) → Fit g v d → Reaches g cpu op writes slot off
-    → entry_at g.parts.maps slot (off / PAGE) ≡ Some pte → CanBeUsed g v pte.page
-entry-usable g v d cpu op writes slot off pte f k entry =
-    let has = entry_page (flat_of g.plan g.journal) g v d cpu op writes slot off pte f k entry in
-    tagged-usable g v d pte.page k.tag f has.tagged
+  -- the page of the entry that a load or store finds
+  pub entry-usable : (cpu : ℕ) (op : Op) (writes : Bool) (slot off : ℕ) (pte : Pte) → Fit g v d → Reaches g cpu op writes slot off → entry_at g.parts.maps slot (off / PAGE) ≡ Some pte
+      → CanBeUsed g v pte.page
+  entry-usable cpu op writes slot off pte f k entry =
+      let has = entry_page (flat_of g.plan g.journal) g v d cpu op writes slot off pte f k entry in
+      tagged-usable pte.page k.tag f has.tagged
 
--- ---- blocks
+  -- ---- blocks
 
--- the files' pages and the swap slots have their blocks on the disk
-pub blocks-most : (g : GuestState) (v : StorageView) (d : DiskView) → SizesFit g v d → sum g.parts.cache.files + length g.parts.cache.swap ≤ d.count
-blocks-most g v d f =
-    let all : sum g.parts.cache.files ≡ file_pages_of g.plan.files = ap sum f.files ∙ sum-map (λ file. file.pages) g.plan.files in
-    omega (arith, all, f.swap, f.blocks)
+  -- the files' pages and the swap slots have their blocks on the disk
+  pub blocks-most : SizesFit g v d → sum g.parts.cache.files + length g.parts.cache.swap ≤ d.count
+  blocks-most f =
+      let all : sum g.parts.cache.files ≡ file_pages_of g.plan.files = ap sum f.files ∙ sum-map (λ file. file.pages) g.plan.files in
+      omega (arith, all, f.swap, f.blocks)
 
--- the block that a page's tag is read from is one of the disk's
-pub backing-below : (g : GuestState) (v : StorageView) (d : DiskView) (page : ℕ) → Fit g v d → IfSome (backing_at g.parts page) (λ block. block < d.count)
-backing-below g v d page f = of (info_at g.parts.pages page).tag refl
-  where
-    below : (tag : Tag) → IsTag g.parts.cache tag → (o : Option ℕ) → backing_of g.parts.cache tag ≡ o → IfSome o (λ block. block < d.count)
-    below tag is None e = tt
-    below tag is (Some block) e = omega (arith, backing_of-below g.parts.cache tag block is e, blocks-most g v d f.sizes)
+  -- the block that a page's tag is read from is one of the disk's
+  pub backing-below : (page : ℕ) → Fit g v d → IfSome (backing_at g.parts page) (λ block. block < d.count)
+  backing-below page f = of (info_at g.parts.pages page).tag refl
+    where
+      below : (tag : Tag) → IsTag g.parts.cache tag → (o : Option ℕ) → backing_of g.parts.cache tag ≡ o → IfSome o (λ block. block < d.count)
+      below tag is None e = tt
+      below tag is (Some block) e = omega (arith, backing_of-below g.parts.cache tag block is e, blocks-most f.sizes)
 
-    of : (o : Option Tag) → (info_at g.parts.pages page).tag ≡ o → IfSome (backing_at g.parts page) (λ block. block < d.count)
-    of None e = rw (e, backing_at) tt
-    of (Some tag) e = rw (e, backing_at) (below tag (f.pages.indexed page tag e).0 (backing_of g.parts.cache tag) refl)
+      of : (o : Option Tag) → (info_at g.parts.pages page).tag ≡ o → IfSome (backing_at g.parts page) (λ block. block < d.count)
+      of None e = rw (e, backing_at) tt
+      of (Some tag) e = rw (e, backing_at) (below tag (f.pages.indexed page tag e).0 (backing_of g.parts.cache tag) refl)
 
--- ---- commands
+  -- ---- commands
 
--- a command's process is one of the guest's
-pub process-below : (g : GuestState) (v : StorageView) (d : DiskView) (cpu : ℕ) → Fit g v d → process_of g.plan cpu < MAX_PROCESSES
-process-below g v d cpu f = process_of-below g.plan cpu f.sizes.range
+  -- a command's process is one of the guest's
+  pub process-below : (cpu : ℕ) → Fit g v d → process_of g.plan cpu < MAX_PROCESSES
+  process-below cpu f = process_of-below g.plan cpu f.sizes.range
 
--- a read, a load or a store is of at most so many bytes, all in one page
-pub read-piece : (g : GuestState) (v : StorageView) (d : DiskView) (cpu file off len : ℕ) → Fit g v d → Has g cpu (Read file off len) → IsPiece off len
-read-piece g v d cpu file off len f has = (command-in_range g.plan cpu (processor_at g cpu).place (Read file off len) f.sizes.range has.command).1
+  -- a read, a load or a store is of at most so many bytes, all in one page
+  pub read-piece : (cpu file off len : ℕ) → Fit g v d → Has g cpu (Read file off len) → IsPiece off len
+  read-piece cpu file off len f has = (command-in_range g.plan cpu (processor_at g cpu).place (Read file off len) f.sizes.range has.command).1
 
-pub load-piece : (g : GuestState) (v : StorageView) (d : DiskView) (cpu number off len : ℕ) → Fit g v d → Has g cpu (Load number off len) → (number < MAX_MAPPING_NUMBERS) × IsPiece off len
-load-piece g v d cpu number off len f has = command-in_range g.plan cpu (processor_at g cpu).place (Load number off len) f.sizes.range has.command
+  pub load-piece : (cpu number off len : ℕ) → Fit g v d → Has g cpu (Load number off len) → (number < MAX_MAPPING_NUMBERS) × IsPiece off len
+  load-piece cpu number off len f has = command-in_range g.plan cpu (processor_at g cpu).place (Load number off len) f.sizes.range has.command
 
-pub store-piece : (g : GuestState) (v : StorageView) (d : DiskView) (cpu number off : ℕ) (bytes : List ℕ) → Fit g v d → Has g cpu (Store number off bytes)
-    → (number < MAX_MAPPING_NUMBERS) × IsPiece off (length bytes)
-store-piece g v d cpu number off bytes f has = command-in_range g.plan cpu (processor_at g cpu).place (Store number off bytes) f.sizes.range has.command
+  pub store-piece : (cpu number off : ℕ) (bytes : List ℕ) → Fit g v d → Has g cpu (Store number off bytes) → (number < MAX_MAPPING_NUMBERS) × IsPiece off (length bytes)
+  store-piece cpu number off bytes f has = command-in_range g.plan cpu (processor_at g cpu).place (Store number off bytes) f.sizes.range has.command
 
--- a new mapping is of pages that a mapping may have
-pub map-pages : (g : GuestState) (v : StorageView) (d : DiskView) (cpu number file first count : ℕ) (writable : Bool) → Fit g v d → Has g cpu (MapFile number file first count writable)
-    → (number < MAX_MAPPING_NUMBERS) × ArePages first count
-map-pages g v d cpu number file first count writable f has =
-    let range = command-in_range g.plan cpu (processor_at g cpu).place (MapFile number file first count writable) f.sizes.range has.command in
-    (range.0, range.2)
+  -- a new mapping is of pages that a mapping may have
+  pub map-pages : (cpu number file first count : ℕ) (writable : Bool) → Fit g v d → Has g cpu (MapFile number file first count writable) → (number < MAX_MAPPING_NUMBERS) × ArePages first count
+  map-pages cpu number file first count writable f has =
+      let range = command-in_range g.plan cpu (processor_at g cpu).place (MapFile number file first count writable) f.sizes.range has.command in
+      (range.0, range.2)
 
--- where it isn't refused, a slot is free
-pub map-free : (g : GuestState) (v : StorageView) (d : DiskView) (cpu number file first count : ℕ) (writable : Bool) → Fit g v d → Starts g cpu (MapFile number file first count writable)
-    → IsSome (free_slot g.parts.maps)
-map-free g v d cpu number file first count writable f starts = of (free_slot g.parts.maps) refl
-  where
-    of : (o : Option ℕ) → free_slot g.parts.maps ≡ o → IsSome o
-    of None e =
-        absurd (has_free_slot (flat_of g.plan g.journal) g v d (file_has_bytes g.plan.files file (PAGE * first) (PAGE * count))
-        (find_slot g.parts.maps (process_of g.plan cpu) number) f starts.accepted e)
-    of (Some slot) e = refl
+  -- where it isn't refused, a slot is free
+  pub map-free : (cpu number file first count : ℕ) (writable : Bool) → Fit g v d → Starts g cpu (MapFile number file first count writable) → IsSome (free_slot g.parts.maps)
+  map-free cpu number file first count writable f starts = of (free_slot g.parts.maps) refl
+    where
+      of : (o : Option ℕ) → free_slot g.parts.maps ≡ o → IsSome o
+      of None e =
+          absurd (has_free_slot (flat_of g.plan g.journal) g v d (file_has_bytes g.plan.files file (PAGE * first) (PAGE * count))
+          (find_slot g.parts.maps (process_of g.plan cpu) number) f starts.accepted e)
+      of (Some slot) e = refl
 
--- also for pages of its own
-pub map_own-free : (g : GuestState) (v : StorageView) (d : DiskView) (cpu number count : ℕ) → Fit g v d → Starts g cpu (MapAnon number count) → IsSome (free_slot g.parts.maps)
-map_own-free g v d cpu number count f starts = of (free_slot g.parts.maps) refl
-  where
-    of : (o : Option ℕ) → free_slot g.parts.maps ≡ o → IsSome o
-    of None e = absurd (has_free_slot (flat_of g.plan g.journal) g v d true (find_slot g.parts.maps (process_of g.plan cpu) number) f starts.accepted e)
-    of (Some slot) e = refl
+  -- also for pages of its own
+  pub map_own-free : (cpu number count : ℕ) → Fit g v d → Starts g cpu (MapAnon number count) → IsSome (free_slot g.parts.maps)
+  map_own-free cpu number count f starts = of (free_slot g.parts.maps) refl
+    where
+      of : (o : Option ℕ) → free_slot g.parts.maps ≡ o → IsSome o
+      of None e = absurd (has_free_slot (flat_of g.plan g.journal) g v d true (find_slot g.parts.maps (process_of g.plan cpu) number) f starts.accepted e)
+      of (Some slot) e = refl
 
--- a sync that isn't refused begins with page 0 of its file
-pub sync-starts : (g : GuestState) (v : StorageView) (d : DiskView) (cpu file : ℕ) → Fit g v d → Starts g cpu (Sync file) → IsSyncing g cpu file 0
-sync-starts g v d cpu file f starts =
-    let below = sync-file g (process_of g.plan cpu) file starts.accepted in
-    record { cpu_below = starts.has.below; command = starts.has.command; file_below = below; within = file_pages-some g.plan.files file f.sizes.range.files.each below }
+  -- a sync that isn't refused begins with page 0 of its file
+  pub sync-starts : (cpu file : ℕ) → Fit g v d → Starts g cpu (Sync file) → IsSyncing g cpu file 0
+  sync-starts cpu file f starts =
+      let below = sync-file g (process_of g.plan cpu) file starts.accepted in
+      record { cpu_below = starts.has.below; command = starts.has.command; file_below = below; within = file_pages-some g.plan.files file f.sizes.range.files.each below }
 
--- each page of its file has a tag
-pub syncing-tag : (g : GuestState) (v : StorageView) (d : DiskView) (cpu file index : ℕ) → Fit g v d → IsSyncing g cpu file index → IsTag g.parts.cache (File file index)
-syncing-tag g v d cpu file index f k = planned-tag g v d file index f.sizes k.file_below k.within
+  -- each page of its file has a tag
+  pub syncing-tag : (cpu file index : ℕ) → Fit g v d → IsSyncing g cpu file index → IsTag g.parts.cache (File file index)
+  syncing-tag cpu file index f k = planned-tag g v d file index f.sizes k.file_below k.within
 
--- and there are at most so many
-pub file-few : (g : GuestState) (v : StorageView) (d : DiskView) (file : ℕ) → Fit g v d → file_pages g.plan.files file ≤ MAX_FILE_PAGES
-file-few g v d file f = file_pages-most g.plan.files file f.sizes.range.files.each
+  -- and there are at most so many
+  pub file-few : (file : ℕ) → Fit g v d → file_pages g.plan.files file ≤ MAX_FILE_PAGES
+  file-few file f = file_pages-most g.plan.files file f.sizes.range.files.each
 
 -- ---- entries
 
@@ -177,25 +176,27 @@ file-few g v d file f = file_pages-most g.plan.files file f.sizes.range.files.ea
 pub reached-place : (g : GuestState) (cpu : ℕ) (op : Op) (writes : Bool) (slot off : ℕ) → Reaches g cpu op writes slot off → IsPlace g.parts.maps slot (off / PAGE)
 reached-place g cpu op writes slot off k = place-tagged g.parts.maps slot (off / PAGE) k.tag k.shown
 
--- entries may show each page of the guest
-pub page-shown : (g : GuestState) (v : StorageView) (d : DiskView) (page : ℕ) → Fit g v d → page < length g.parts.pages.infos → page < g.parts.maps.pages
-page-shown g v d page f below = rw f.slots.pages below
+-- g the guest, v its storage, d its disk
+module _ (g : GuestState) (v : StorageView) (d : DiskView) where
+  -- entries may show each page of the guest
+  pub page-shown : (page : ℕ) → Fit g v d → page < length g.parts.pages.infos → page < g.parts.maps.pages
+  page-shown page f below = rw f.slots.pages below
 
--- a page has at most as many writers as there are entries
-pub writers-most : (g : GuestState) (v : StorageView) (d : DiskView) (page : ℕ) → Fit g v d → (info_at g.parts.pages page).writers ≤ MAX_MAPPING_SLOTS * MAX_MAPPING_PAGES
-writers-most g v d page f = omega (arith, f.entries.writers page, count_by-le-length (stores_to page) g.parts.maps.entries, f.slots.entries)
+  -- a page has at most as many writers as there are entries
+  pub writers-most : (page : ℕ) → Fit g v d → (info_at g.parts.pages page).writers ≤ MAX_MAPPING_SLOTS * MAX_MAPPING_PAGES
+  writers-most page f = omega (arith, f.entries.writers page, count_by-le-length (stores_to page) g.parts.maps.entries, f.slots.entries)
 
--- the page of an entry that allows stores has a writer
-writer-some : (g : GuestState) (v : StorageView) (d : DiskView) (slot index : ℕ) (pte : Pte) → Fit g v d → entry_at g.parts.maps slot index ≡ Some pte → pte.writable ≡ true
-    → 1 ≤ (info_at g.parts.pages pte.page).writers
-writer-some g v d slot index pte f entry writable =
-    let entry' : entry_at g.parts.maps slot index ≡ Some (record { page = pte.page; writable = true }) = entry ∙ ap (λ w. let out : Option Pte = Some (record pte { writable = w }) in out) writable in
-    omega (arith, f.entries.writers pte.page, some_writer g.parts.maps slot index pte.page entry')
+  -- the page of an entry that allows stores has a writer
+  writer-some : (slot index : ℕ) (pte : Pte) → Fit g v d → entry_at g.parts.maps slot index ≡ Some pte → pte.writable ≡ true → 1 ≤ (info_at g.parts.pages pte.page).writers
+  writer-some slot index pte f entry writable =
+      let entry' : entry_at g.parts.maps slot index ≡ Some (record { page = pte.page; writable = true }) =
+      entry ∙ ap (λ w. let out : Option Pte = Some (record pte { writable = w }) in out) writable in
+      omega (arith, f.entries.writers pte.page, some_writer g.parts.maps slot index pte.page entry')
 
--- ---- unmaps
+  -- ---- unmaps
 
-pub unmap-number : (g : GuestState) (v : StorageView) (d : DiskView) (cpu number : ℕ) → Fit g v d → Has g cpu (Unmap number) → number < MAX_MAPPING_NUMBERS
-unmap-number g v d cpu number f has = command-in_range g.plan cpu (processor_at g cpu).place (Unmap number) f.sizes.range has.command
+  pub unmap-number : (cpu number : ℕ) → Fit g v d → Has g cpu (Unmap number) → number < MAX_MAPPING_NUMBERS
+  unmap-number cpu number f has = command-in_range g.plan cpu (processor_at g cpu).place (Unmap number) f.sizes.range has.command
 
 -- the mapping that an unmap finds is live
 pub unmap-live : (g : GuestState) (cpu number slot : ℕ) → find_slot g.parts.maps (process_of g.plan cpu) number ≡ Some slot → is_live_slot (slot_at g.parts.maps slot) ≡ true
@@ -205,59 +206,57 @@ unmap-live g cpu number slot found = let its = found_slot g.parts.maps (process_
 pub tearing-place : (g : GuestState) (cpu slot index : ℕ) → (k : IsTearing g cpu slot index) → IsPlace g.parts.maps slot index
 tearing-place g cpu slot index k = IsPlace-from g.parts.maps slot index k.mapping k.at k.within
 
-pub tearing-below : (g : GuestState) (v : StorageView) (d : DiskView) (cpu slot index : ℕ) → Fit g v d → IsTearing g cpu slot index → index < MAX_MAPPING_PAGES
-tearing-below g v d cpu slot index f k = omega (arith, k.within, (f.slots.shown slot k.mapping k.at).0)
+-- g the guest, v its storage, d its disk
+module _ (g : GuestState) (v : StorageView) (d : DiskView) where
+  pub tearing-below : (cpu slot index : ℕ) → Fit g v d → IsTearing g cpu slot index → index < MAX_MAPPING_PAGES
+  tearing-below cpu slot index f k = omega (arith, k.within, (f.slots.shown slot k.mapping k.at).0)
 
--- its entry can be cleared
-pub tearing-clears : (g : GuestState) (v : StorageView) (d : DiskView) (cpu slot index : ℕ) (pte : Pte) → Fit g v d → IsTearing g cpu slot index → entry_at g.parts.maps slot index ≡ Some pte
-    → CanClear g.parts v slot index pte
-tearing-clears g v d cpu slot index pte f k entry =
-    let its = torn_page (flat_of g.plan g.journal) g v d cpu slot index pte f k entry in
-    let usable = tagged-usable g v d pte.page its.0.tag f its.1.tagged in
-    record {
-      place = tearing-place g cpu slot index k;
-      takes = record {
-        in_use = record { below = usable.page_below; shown = page-shown g v d pte.page f usable.page_below; not_free = usable.not_free; tag = usable.tag };
-        there = usable.pages_below;
-        none_held = f.hints.none_held;
-      };
-      writers = writer-some g v d slot index pte f entry;
-    }
+  -- its entry can be cleared
+  pub tearing-clears : (cpu slot index : ℕ) (pte : Pte) → Fit g v d → IsTearing g cpu slot index → entry_at g.parts.maps slot index ≡ Some pte → CanClear g.parts v slot index pte
+  tearing-clears cpu slot index pte f k entry =
+      let its = torn_page (flat_of g.plan g.journal) g v d cpu slot index pte f k entry in
+      let usable = tagged-usable g v d pte.page its.0.tag f its.1.tagged in
+      record {
+        place = tearing-place g cpu slot index k;
+        takes = record {
+          in_use = record { below = usable.page_below; shown = page-shown g v d pte.page f usable.page_below; not_free = usable.not_free; tag = usable.tag };
+          there = usable.pages_below;
+          none_held = f.hints.none_held;
+        };
+        writers = writer-some g v d slot index pte f entry;
+      }
 
--- ---- pins
+  -- ---- pins
 
--- the numbers of a pin or an unpin
-pub pin-piece : (g : GuestState) (v : StorageView) (d : DiskView) (cpu : ℕ) (pins : Bool) (number index : ℕ) → Fit g v d → Has g cpu (pin_op pins number index)
-    → (number < MAX_MAPPING_NUMBERS) × (index < MAX_MAPPING_PAGES)
-pin-piece g v d cpu true number index f has = command-in_range g.plan cpu (processor_at g cpu).place (Pin number index) f.sizes.range has.command
-pin-piece g v d cpu false number index f has = command-in_range g.plan cpu (processor_at g cpu).place (Unpin number index) f.sizes.range has.command
+  -- the numbers of a pin or an unpin
+  pub pin-piece : (cpu : ℕ) (pins : Bool) (number index : ℕ) → Fit g v d → Has g cpu (pin_op pins number index) → (number < MAX_MAPPING_NUMBERS) × (index < MAX_MAPPING_PAGES)
+  pin-piece cpu true number index f has = command-in_range g.plan cpu (processor_at g cpu).place (Pin number index) f.sizes.range has.command
+  pin-piece cpu false number index f has = command-in_range g.plan cpu (processor_at g cpu).place (Unpin number index) f.sizes.range has.command
 
--- a page has at most as many pins as there are places
-pub pins-most : (g : GuestState) (v : StorageView) (d : DiskView) (page : ℕ) → Fit g v d → (info_at g.parts.pages page).pins ≤ MAX_MAPPING_SLOTS * MAX_MAPPING_PAGES
-pins-most g v d page f = of (info_at g.parts.pages page).tag refl
-  where
-    of : (o : Option Tag) → (info_at g.parts.pages page).tag ≡ o → (info_at g.parts.pages page).pins ≤ MAX_MAPPING_SLOTS * MAX_MAPPING_PAGES
-    of None e = rw (f.pages.bare page e) (omega arith)
-    of (Some tag) e = omega (arith, f.pins.counted page tag e, pins_within-most g.parts.maps tag (length g.parts.maps.slots) MAX_MAPPING_PAGES, f.slots.slots)
+  -- a page has at most as many pins as there are places
+  pub pins-most : (page : ℕ) → Fit g v d → (info_at g.parts.pages page).pins ≤ MAX_MAPPING_SLOTS * MAX_MAPPING_PAGES
+  pins-most page f = of (info_at g.parts.pages page).tag refl
+    where
+      of : (o : Option Tag) → (info_at g.parts.pages page).tag ≡ o → (info_at g.parts.pages page).pins ≤ MAX_MAPPING_SLOTS * MAX_MAPPING_PAGES
+      of None e = rw (f.pages.bare page e) (omega arith)
+      of (Some tag) e = omega (arith, f.pins.counted page tag e, pins_within-most g.parts.maps tag (length g.parts.maps.slots) MAX_MAPPING_PAGES, f.slots.slots)
 
--- and the page of an unpin has one
-pub unpin-some : (g : GuestState) (v : StorageView) (d : DiskView) (cpu number index page : ℕ) → Fit g v d → Starts g cpu (Unpin number index) → HasItsTag g cpu (Unpin number index) page
-    → 1 ≤ (info_at g.parts.pages page).pins
-unpin-some g v d cpu number index page f starts has =
-    let tag = has.tag in
-    let its = tag_in-Some g.parts (find_slot g.parts.maps (process_of g.plan cpu) number) index tag has.wants in
-    let k = pin-place g cpu false number index its.0 starts its.1 in
-    let is = (is_wanted (flat_of g.plan g.journal) g v d cpu (Unpin number index) tag f.sizes f.slots starts has.wants).is_tag in
-    let few : index < MAX_MAPPING_PAGES = omega (arith, k.below, (f.slots.shown its.0 k.mapping k.at).0) in
-    let some = pins_within-some g.parts.maps tag (length g.parts.maps.slots) MAX_MAPPING_PAGES its.0 index (slot-below g.parts.maps its.0 k.mapping k.at) few k.was its.2 in
-    omega (arith, f.pins.counted page tag (f.pages.found page tag is has.found).1, some)
+  -- and the page of an unpin has one
+  pub unpin-some : (cpu number index page : ℕ) → Fit g v d → Starts g cpu (Unpin number index) → HasItsTag g cpu (Unpin number index) page → 1 ≤ (info_at g.parts.pages page).pins
+  unpin-some cpu number index page f starts has =
+      let tag = has.tag in
+      let its = tag_in-Some g.parts (find_slot g.parts.maps (process_of g.plan cpu) number) index tag has.wants in
+      let k = pin-place g cpu false number index its.0 starts its.1 in
+      let is = (is_wanted (flat_of g.plan g.journal) g v d cpu (Unpin number index) tag f.sizes f.slots starts has.wants).is_tag in
+      let few : index < MAX_MAPPING_PAGES = omega (arith, k.below, (f.slots.shown its.0 k.mapping k.at).0) in
+      let some = pins_within-some g.parts.maps tag (length g.parts.maps.slots) MAX_MAPPING_PAGES its.0 index (slot-below g.parts.maps its.0 k.mapping k.at) few k.was its.2 in
+      omega (arith, f.pins.counted page tag (f.pages.found page tag is has.found).1, some)
 
--- ---- places and the journal
+  -- ---- places and the journal
 
--- a processor has at most so many commands
-pub place-below : (g : GuestState) (v : StorageView) (d : DiskView) (cpu : ℕ) (op : Op) → Fit g v d → command_of g.plan cpu (processor_at g cpu).place ≡ Some op
-    → (processor_at g cpu).place < MAX_COMMANDS
-place-below g v d cpu op f command = omega (arith, command-below g.plan cpu (processor_at g cpu).place op command, command_count-le g.plan cpu f.sizes.range)
+  -- a processor has at most so many commands
+  pub place-below : (cpu : ℕ) (op : Op) → Fit g v d → command_of g.plan cpu (processor_at g cpu).place ≡ Some op → (processor_at g cpu).place < MAX_COMMANDS
+  place-below cpu op f command = omega (arith, command-below g.plan cpu (processor_at g cpu).place op command, command_count-le g.plan cpu f.sizes.range)
 
 -- the plan with other processors
 abbrev with_cpus : GuestPlan → List CpuPlan → GuestPlan

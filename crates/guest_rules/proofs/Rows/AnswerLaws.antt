@@ -133,56 +133,56 @@ stale-hint parts page true has stale =
     hint-stale _ has.tag (ap (λ i. i.tag) here ∙ has.tagged) (ap (λ i. i.uptodate) here ∙ stale)
 stale-hint parts page false has stale = hint-stale _ has.tag has.tagged stale
 
--- what a rehint did, in two equations
-record WasRetold (parts : Parts) (page : ℕ) (v : StorageView) (a : Parts) (w : StorageView) : Type 0 where
-  tables : a ≡ with_change parts page (v.values page).changed
-  value : w.values page ≡ rehinted_value a page (v.values page)
+-- parts the guest's tables, page the page, v its storage
+module _ (parts : Parts) (page : ℕ) (v : StorageView) where
+  -- what a rehint did, in two equations
+  record WasRetold (a : Parts) (w : StorageView) : Type 0 where
+    tables : a ≡ with_change parts page (v.values page).changed
+    value : w.values page ≡ rehinted_value a page (v.values page)
 
-rehint_stale : (parts : Parts) (page : ℕ) (v : StorageView) (d : DiskView) (a : Parts) (w : StorageView) (e : DiskView)
-    → HasTag parts page → (info_at parts.pages page).uptodate ≡ false → (v.values page).usage ≡ S → Seen (rehint parts page) v d a w e → WasRetold parts page v a w
-unfolding rehint
-rehint_stale parts page v d a w e has stale stable (changed, m, (keeps, nothing, still, holds, was, value, _), run) =
-    told (subst (λ u. Seen (tell u (with_change parts page changed) page) m d a w e) (stale-hint parts page changed has stale) run)
-  where
-    told : Seen (done (with_change parts page changed)) m d a w e → WasRetold parts page v a w
-    told (ea, em, ed) =
-        let hinted : hint (info_at a.pages page) ≡ S = ap (λ q. hint (info_at q.pages page)) ea ∙ stale-hint parts page changed has stale in
-        record {
-          tables = ea ∙ ap (λ b. with_change parts page b) was;
-          value = ap (λ q. q.values page) em ∙ value ∙ ap (λ u. record (v.values page) { usage = u; changed = false }) (stable ∙ sym hinted);
-        }
+  rehint_stale : (d : DiskView) (a : Parts) (w : StorageView) (e : DiskView) → HasTag parts page → (info_at parts.pages page).uptodate ≡ false → (v.values page).usage ≡ S
+      → Seen (rehint parts page) v d a w e → WasRetold a w
+  unfolding rehint
+  rehint_stale d a w e has stale stable (changed, m, (keeps, nothing, still, holds, was, value, _), run) =
+      told (subst (λ u. Seen (tell u (with_change parts page changed) page) m d a w e) (stale-hint parts page changed has stale) run)
+    where
+      told : Seen (done (with_change parts page changed)) m d a w e → WasRetold a w
+      told (ea, em, ed) =
+          let hinted : hint (info_at a.pages page) ≡ S = ap (λ q. hint (info_at q.pages page)) ea ∙ stale-hint parts page changed has stale in
+          record {
+            tables = ea ∙ ap (λ b. with_change parts page b) was;
+            value = ap (λ q. q.values page) em ∙ value ∙ ap (λ u. record (v.values page) { usage = u; changed = false }) (stable ∙ sym hinted);
+          }
 
-pub rehint-says : (parts : Parts) (page : ℕ) (v : StorageView) (d : DiskView) (a : Parts) (w : StorageView) (e : DiskView)
-    → CanBeTold parts page v → Seen (rehint parts page) v d a w e → IsRetold parts page v a w
-rehint-says parts page v d a w e can run = by (info_at parts.pages page).uptodate refl
-  where
-    told : WasRetold parts page v a w → IsRetold parts page v a w
-    told k = record {
-      hinted = record { usage = ap (λ q. q.usage) k.value; unchanged = ap (λ q. q.changed) k.value };
-      dirty = ap (λ q. (info_at q.pages page).dirty) k.tables ∙ dirty-after parts page (v.values page).changed can.has.below;
-      tables = may_be_dirty parts page (v.values page).changed a k.tables;
-      same = ap (λ q. q.contents) k.value;
-    }
+  pub rehint-says : (d : DiskView) (a : Parts) (w : StorageView) (e : DiskView) → CanBeTold parts page v → Seen (rehint parts page) v d a w e → IsRetold parts page v a w
+  rehint-says d a w e can run = by (info_at parts.pages page).uptodate refl
+    where
+      told : WasRetold a w → IsRetold parts page v a w
+      told k = record {
+        hinted = record { usage = ap (λ q. q.usage) k.value; unchanged = ap (λ q. q.changed) k.value };
+        dirty = ap (λ q. (info_at q.pages page).dirty) k.tables ∙ dirty-after parts page (v.values page).changed can.has.below;
+        tables = may_be_dirty parts page (v.values page).changed a k.tables;
+        same = ap (λ q. q.contents) k.value;
+      }
 
-    by : (uptodate : Bool) → (info_at parts.pages page).uptodate ≡ uptodate → IsRetold parts page v a w
-    by true u =
-        let k = seen_rehint parts page v d a w e (is_used parts page can.has.tag can.has.below can.has.tagged) can.stable (can.filled u) run in
-        told (record { tables = k.tables; value = k.value })
-    by false u = told (rehint_stale parts page v d a w e can.has u can.stable run)
+      by : (uptodate : Bool) → (info_at parts.pages page).uptodate ≡ uptodate → IsRetold parts page v a w
+      by true u =
+          let k = seen_rehint parts page v d a w e (is_used parts page can.has.tag can.has.below can.has.tagged) can.stable (can.filled u) run in
+          told (record { tables = k.tables; value = k.value })
+      by false u = told (rehint_stale d a w e can.has u can.stable run)
 
--- ---- a page that is read, written or pinned
+  -- ---- a page that is read, written or pinned
 
-pub usable : (parts : Parts) (page : ℕ) (v : StorageView) → HasBeenFilled parts page v → CanBeUsed parts page v
-usable parts page v can = record { tells = can.tells; hinted = is_used parts page can.has.tag can.has.below can.has.tagged; usage = can.used; filled = can.filled }
+  pub usable : HasBeenFilled parts page v → CanBeUsed parts page v
+  usable can = record { tells = can.tells; hinted = is_used parts page can.has.tag can.has.below can.has.tagged; usage = can.used; filled = can.filled }
 
-missed-says : (parts : Parts) (page : ℕ) (v w : StorageView) (d e : DiskView) (a : Parts) (missed : Missed) → page < length parts.pages.infos → MissOutcome parts page v d a missed w e
-    → MissedAnswer parts page v a missed w
-missed-says parts page v w d e a WasGone below k = discarded-is parts page v w d e a below k
-missed-says parts page v w d e a (MissedAgain why) below (tables, misses) =
-    (⊎_elim (λ (same, may, disk). inl same) (λ (found, there). may_be_dirty parts page found.changed a there.rehinted.tables) tables, misses)
-missed-says parts page v w d e a (MissedFail Paging) below ((found, there), risen) = (may_be_dirty parts page found.changed a there.rehinted.tables, risen)
-missed-says parts page v w d e a (MissedFail Disk) below k = k
-missed-says parts page v w d e a (MissedFail (NoPage pinned unslotted)) below k = k
+  missed-says : (w : StorageView) (d e : DiskView) (a : Parts) (missed : Missed) → page < length parts.pages.infos → MissOutcome parts page v d a missed w e → MissedAnswer parts page v a missed w
+  missed-says w d e a WasGone below k = discarded-is parts page v w d e a below k
+  missed-says w d e a (MissedAgain why) below (tables, misses) =
+      (⊎_elim (λ (same, may, disk). inl same) (λ (found, there). may_be_dirty parts page found.changed a there.rehinted.tables) tables, misses)
+  missed-says w d e a (MissedFail Paging) below ((found, there), risen) = (may_be_dirty parts page found.changed a there.rehinted.tables, risen)
+  missed-says w d e a (MissedFail Disk) below k = k
+  missed-says w d e a (MissedFail (NoPage pinned unslotted)) below k = k
 
 pub read-says : (parts : Parts) (page off len : ℕ) (v : StorageView) (d : DiskView) (a : Parts) (r : Result (List ℕ) Missed) (w : StorageView) (e : DiskView)
     → HasBeenFilled parts page v → Seen (read_page parts page off len) v d (a, r) w e → ReadAnswer parts page off len v a r w
@@ -248,49 +248,50 @@ pinned-size : (parts : Parts) (page slot index : ℕ) (pins : Bool) → length (
 unfolding pinned with_pins
 pinned-size parts page slot index pins = length-with_info parts.pages page (record (info_at parts.pages page) { pins = pins_after pins (info_at parts.pages page).pins })
 
-pinned-maps : (parts : Parts) (page slot index : ℕ) (pins : Bool) → (pinned parts page slot index pins).maps ≡ with_pinned parts.maps slot index pins
-unfolding pinned
-pinned-maps parts page slot index pins = refl
+-- parts the guest's tables, page the page, slot the slot of a mapping, index a page of it
+module _ (parts : Parts) (page slot index : ℕ) where
+  pinned-maps : (pins : Bool) → (pinned parts page slot index pins).maps ≡ with_pinned parts.maps slot index pins
+  unfolding pinned
+  pinned-maps pins = refl
 
-pub pin-says : (parts : Parts) (page slot index : ℕ) (pins : Bool) (v : StorageView) (d : DiskView) (a : Parts) (r : Placed) (w : StorageView) (e : DiskView)
-    → HasBeenFilled parts page v → Seen (pin_page parts page slot index pins) v d (a, r) w e → PinAnswer parts page slot index pins v a r w
-pin-says parts page slot index pins v d a r w e can run =
-    of r (seen_pin_page parts page slot index pins v d a r w e (usable parts page v can) (is_used_pinned parts page slot index pins can.has.tag can.has.below can.has.tagged) run)
-  where
-    middle : Parts
-    middle = pinned parts page slot index pins
+  pub pin-says : (pins : Bool) (v : StorageView) (d : DiskView) (a : Parts) (r : Placed) (w : StorageView) (e : DiskView) → HasBeenFilled parts page v
+      → Seen (pin_page parts page slot index pins) v d (a, r) w e → PinAnswer parts page slot index pins v a r w
+  pin-says pins v d a r w e can run =
+      of r (seen_pin_page parts page slot index pins v d a r w e (usable parts page v can) (is_used_pinned parts page slot index pins can.has.tag can.has.below can.has.tagged) run)
+    where
+      middle : Parts
+      middle = pinned parts page slot index pins
 
-    of : (r : Placed) → PinOutcome parts page slot index pins v d a r w e → PinAnswer parts page slot index pins v a r w
-    of PlaceDone (found, k) = (
-      record {
-        maps = ap (λ q. q.maps) k.rehinted.tables ∙ maps-after middle page found.changed ∙ pinned-maps parts page slot index pins;
-        count = ap (λ q. (info_at q.pages page).pins) k.rehinted.tables ∙ pins-after middle page found.changed (rw pinned-size can.has.below) ∙ pinned-pins parts page slot index pins can.has.below;
-      },
-      hinted-is middle page found a w k.rehinted,
-    )
-    of PlaceGone k = discarded-is parts page v w d e a can.has.below k
-    of (PlaceAgain why) (tables, may, misses, disk) = (tables, misses)
+      of : (r : Placed) → PinOutcome parts page slot index pins v d a r w e → PinAnswer parts page slot index pins v a r w
+      of PlaceDone (found, k) = (
+        record {
+          maps = ap (λ q. q.maps) k.rehinted.tables ∙ maps-after middle page found.changed ∙ pinned-maps pins;
+          count = ap (λ q. (info_at q.pages page).pins) k.rehinted.tables ∙ pins-after middle page found.changed (rw pinned-size can.has.below) ∙ pinned-pins parts page slot index pins can.has.below;
+        },
+        hinted-is middle page found a w k.rehinted,
+      )
+      of PlaceGone k = discarded-is parts page v w d e a can.has.below k
+      of (PlaceAgain why) (tables, may, misses, disk) = (tables, misses)
 
-mapped-maps : (parts : Parts) (page slot index : ℕ) (writable : Bool)
-    → (mapped parts page slot index writable).maps ≡ with_entry parts.maps slot index (Some (record { page = page; writable = writable }))
-unfolding mapped
-mapped-maps parts page slot index writable = refl
+  mapped-maps : (writable : Bool) → (mapped parts page slot index writable).maps ≡ with_entry parts.maps slot index (Some (record { page = page; writable = writable }))
+  unfolding mapped
+  mapped-maps writable = refl
 
-pub resolve-says : (parts : Parts) (page slot index : ℕ) (writable : Bool) (v : StorageView) (d : DiskView) (a : Parts) (r : Placed) (w : StorageView) (e : DiskView)
-    → HasBeenFilled parts page v → Seen (resolve parts page slot index writable) v d (a, r) w e → ResolveAnswer parts page slot index writable v a r w
-resolve-says parts page slot index writable v d a r w e can run =
-    of r (seen_resolve parts page slot index writable v d a r w e (usable parts page v can) (is_used_mapped parts page slot index writable can.has.tag can.has.below can.has.tagged) run)
-  where
-    middle : Parts
-    middle = mapped parts page slot index writable
+  pub resolve-says : (writable : Bool) (v : StorageView) (d : DiskView) (a : Parts) (r : Placed) (w : StorageView) (e : DiskView) → HasBeenFilled parts page v
+      → Seen (resolve parts page slot index writable) v d (a, r) w e → ResolveAnswer parts page slot index writable v a r w
+  resolve-says writable v d a r w e can run =
+      of r (seen_resolve parts page slot index writable v d a r w e (usable parts page v can) (is_used_mapped parts page slot index writable can.has.tag can.has.below can.has.tagged) run)
+    where
+      middle : Parts
+      middle = mapped parts page slot index writable
 
-    of : (r : Placed) → ResolveOutcome parts page slot index writable v d a r w e → ResolveAnswer parts page slot index writable v a r w
-    of PlaceDone (found, k) = (
-      ap (λ q. q.maps) k.rehinted.tables ∙ maps-after middle page found.changed ∙ mapped-maps parts page slot index writable,
-      hinted-is middle page found a w k.rehinted,
-    )
-    of PlaceGone k = discarded-is parts page v w d e a can.has.below k
-    of (PlaceAgain why) (tables, may, misses, disk) = (tables, misses)
+      of : (r : Placed) → ResolveOutcome parts page slot index writable v d a r w e → ResolveAnswer parts page slot index writable v a r w
+      of PlaceDone (found, k) = (
+        ap (λ q. q.maps) k.rehinted.tables ∙ maps-after middle page found.changed ∙ mapped-maps writable,
+        hinted-is middle page found a w k.rehinted,
+      )
+      of PlaceGone k = discarded-is parts page v w d e a can.has.below k
+      of (PlaceAgain why) (tables, may, misses, disk) = (tables, misses)
 
 -- an entry is cleared
 

@@ -116,64 +116,60 @@ zeros_size : length zero_page ≡ PAGE
 unfolding zero_page
 zeros_size = length-replicate {A = ℕ} PAGE 0
 
--- what a read of a block gave
-filled_read : (parts : Parts) (page block : ℕ) (v n m : StorageView) (d x : DiskView) (a : Parts) (r : Filled) (w : StorageView) (e : DiskView) (was : Result Unit Failed) (bytes : List ℕ)
-    → IsFillable parts page v d n → Keeps n page m → IsTouched page v m
-    → backing_at parts page ≡ Some block → DiskFollows d (Read block was bytes) x
-    → Seen (fill_read parts page (block_read was bytes)) m x (a, r) w e → FillOutcome parts page v d a r w e
-filled_read parts page block v n m d x a r w e (Ok u) bytes f keeps is at_block (disk, size, holds, blocks) run =
-    let are : bytes ≡ backed d.blocks (backing_at parts page) = rw (at_block, f.can.told.1) (rw f.can.told.1 at holds) in
-    filled_with parts page bytes v n m d x a r w e f keeps is (record { count = disk.count; blocks = blocks }) size are run
-filled_read parts page block v n m d x a r w e (Err failed) bytes f keeps is at_block (disk, size, was) run =
-    given_up parts page Disk v m d x a r w e (Keeps-trans v n m page f.keeps keeps) is.count (record { count = disk.count; blocks = was.blocks }) (λ w k. was.risen) run
+-- parts the guest's tables, page the page, v and w its storage before and after, d and e its disk before and after, a the tables after, r the answer
+module _ (parts : Parts) (page : ℕ) (v : StorageView) (d : DiskView) (a : Parts) (r : Filled) (w : StorageView) (e : DiskView) where
+  -- what a read of a block gave
+  filled_read : (block : ℕ) (n m : StorageView) (x : DiskView) (was : Result Unit Failed) (bytes : List ℕ) → IsFillable parts page v d n → Keeps n page m → IsTouched page v m
+      → backing_at parts page ≡ Some block → DiskFollows d (Read block was bytes) x → Seen (fill_read parts page (block_read was bytes)) m x (a, r) w e → FillOutcome parts page v d a r w e
+  filled_read block n m x (Ok u) bytes f keeps is at_block (disk, size, holds, blocks) run =
+      let are : bytes ≡ backed d.blocks (backing_at parts page) = rw (at_block, f.can.told.1) (rw f.can.told.1 at holds) in
+      filled_with parts page bytes v n m d x a r w e f keeps is (record { count = disk.count; blocks = blocks }) size are run
+  filled_read block n m x (Err failed) bytes f keeps is at_block (disk, size, was) run =
+      given_up parts page Disk v m d x a r w e (Keeps-trans v n m page f.keeps keeps) is.count (record { count = disk.count; blocks = was.blocks }) (λ w k. was.risen) run
 
-filled_from : (parts : Parts) (page : ℕ) (block : Option ℕ) (v n m : StorageView) (d : DiskView) (a : Parts) (r : Filled) (w : StorageView) (e : DiskView)
-    → IsFillable parts page v d n → Keeps n page m → IsTouched page v m
-    → backing_at parts page ≡ block → Seen (fill_from parts page block) m d (a, r) w e → FillOutcome parts page v d a r w e
-filled_from parts page (Some block) v n m d a r w e f keeps is at_block (was, bytes, x, follows, run) =
-    filled_read parts page block v n m d x a r w e was bytes f keeps is at_block follows run
-filled_from parts page None v n m d a r w e f keeps is at_block run =
-    filled_with parts page zero_page v n m d d a r w e f keeps is (record { count = refl; blocks = refl }) zeros_size (rw at_block refl) run
+  filled_from : (block : Option ℕ) (n m : StorageView) → IsFillable parts page v d n → Keeps n page m → IsTouched page v m → backing_at parts page ≡ block
+      → Seen (fill_from parts page block) m d (a, r) w e → FillOutcome parts page v d a r w e
+  filled_from (Some block) n m f keeps is at_block (was, bytes, x, follows, run) = filled_read block n m x was bytes f keeps is at_block follows run
+  filled_from None n m f keeps is at_block run = filled_with parts page zero_page v n m d d a r w e f keeps is (record { count = refl; blocks = refl }) zeros_size (rw at_block refl) run
 
-filled_touched : (parts : Parts) (page : ℕ) (v n m : StorageView) (d : DiskView) (a : Parts) (r : Filled) (w : StorageView) (e : DiskView) (trap : Result Unit Trap)
-    → IsFillable parts page v d n → Follows n (Touch page trap) m → Seen (fill_touched parts page trap) m d (a, r) w e → FillOutcome parts page v d a r w e
-filled_touched parts page v n m d a r w e (Ok u) f (keeps, nothing, holds, there, value, whole, _, _) run =
-    let is : IsTouched page v m = record {
-      whole = whole (f.keeps.tells ∙ f.can.tells);
-      usage = ap (λ q. q.usage) value ∙ ap (λ q. q.usage) f.value ∙ f.can.usage;
-      count = ap (λ q. q.count) value ∙ ap (λ q. q.count) f.value;
-    } in
-    filled_from parts page (backing_at parts page) v n m d a r w e f keeps is refl run
-filled_touched parts page v n m d a r w e (Err Discarded) f (keeps, nothing, still, same, lost, _) run =
-    let bad : true ≡ false = sym lost ∙ ap (λ q. is_lost q.contents) f.value ∙ f.there in absurd cc
-filled_touched parts page v n m d a r w e (Err Paging) f (keeps, nothing, same, there, fresh, risen, _, _) run =
-    let count : (m.values page).count ≡ (v.values page).count = ap (λ q. q.count) (same.1 ∙ f.value) in
-    given_up parts page PagingCause v m d d a r w e (Keeps-trans v n m page f.keeps keeps) count (record { count = refl; blocks = refl })
-    (λ w k. risen_around v.faults n.faults m.faults w.faults f.keeps.faults risen k.faults) run
-filled_touched parts page v n m d a r w e (Err (NoFrame looks)) f (keeps, misses, same, there, fresh, _, _) (o, (keeps', nothing, still, held, value), (ea, em, ed)) =
-    let er : r ≡ Again (HadNoFrame looks) = ap (λ q. q.1) ea in
-    let all = Keeps-trans v n o page f.keeps (Keeps-trans n m o page keeps keeps') in
-    let unmoved : w.values page ≡ v.values page = rw em (value ∙ same.1 ∙ f.value) in
-    rw er (ap (λ q. q.0) ea, all_may page v w d e (rw em all) (rw em held) (inl unmoved) ed, rw em (misses_around v n m o page f.keeps misses keeps'), ed)
+  filled_touched : (n m : StorageView) (trap : Result Unit Trap) → IsFillable parts page v d n → Follows n (Touch page trap) m → Seen (fill_touched parts page trap) m d (a, r) w e
+      → FillOutcome parts page v d a r w e
+  filled_touched n m (Ok u) f (keeps, nothing, holds, there, value, whole, _, _) run =
+      let is : IsTouched page v m = record {
+        whole = whole (f.keeps.tells ∙ f.can.tells);
+        usage = ap (λ q. q.usage) value ∙ ap (λ q. q.usage) f.value ∙ f.can.usage;
+        count = ap (λ q. q.count) value ∙ ap (λ q. q.count) f.value;
+      } in
+      filled_from (backing_at parts page) n m f keeps is refl run
+  filled_touched n m (Err Discarded) f (keeps, nothing, still, same, lost, _) run =
+      let bad : true ≡ false = sym lost ∙ ap (λ q. is_lost q.contents) f.value ∙ f.there in absurd cc
+  filled_touched n m (Err Paging) f (keeps, nothing, same, there, fresh, risen, _, _) run =
+      let count : (m.values page).count ≡ (v.values page).count = ap (λ q. q.count) (same.1 ∙ f.value) in
+      given_up parts page PagingCause v m d d a r w e (Keeps-trans v n m page f.keeps keeps) count (record { count = refl; blocks = refl })
+      (λ w k. risen_around v.faults n.faults m.faults w.faults f.keeps.faults risen k.faults) run
+  filled_touched n m (Err (NoFrame looks)) f (keeps, misses, same, there, fresh, _, _) (o, (keeps', nothing, still, held, value), (ea, em, ed)) =
+      let er : r ≡ Again (HadNoFrame looks) = ap (λ q. q.1) ea in
+      let all = Keeps-trans v n o page f.keeps (Keeps-trans n m o page keeps keeps') in
+      let unmoved : w.values page ≡ v.values page = rw em (value ∙ same.1 ∙ f.value) in
+      rw er (ap (λ q. q.0) ea, all_may page v w d e (rw em all) (rw em held) (inl unmoved) ed, rw em (misses_around v n m o page f.keeps misses keeps'), ed)
 
-pub seen_fill : (parts : Parts) (page : ℕ) (v : StorageView) (d : DiskView) (a : Parts) (r : Filled) (w : StorageView) (e : DiskView)
-    → CanBeFilled parts page v d → Seen (fill parts page) v d (a, r) w e → FillOutcome parts page v d a r w e
-unfolding fill
-seen_fill parts page v d a r w e can (Err busy, m, (keeps, misses, is_busy, held, may), (ea, em, ed)) =
-    let er : r ≡ Again (WasBusy page busy.word) = ap (λ q. q.1) ea in
-    rw er (ap (λ q. q.0) ea, all_may page v w d e (rw em keeps) (rw em held) (rw em may) ed, rw em misses, ed)
-seen_fill parts page v d a r w e can (
-  Ok u,
-  m,
-  (keeps, nothing, still, holds, may, is_value, quiet, _),
-  (old, n, (keeps', nothing', still', holds', is_old, (was_done, value), _, _), (trap, o, follows, run)),
-) =
-    let same : m.values page ≡ v.values page = may_stable (v.values page) (m.values page) can.usage may in
-    let there = stable_there (v.values page) can.usage can.value in
-    let f : IsFillable parts page v d n = record {
-      can = can;
-      keeps = Keeps-trans v m n page keeps keeps';
-      there = there;
-      value = value ∙ ap made_stable same ∙ made_stable-same (v.values page) can.usage there;
-    } in
-    filled_touched parts page v n o d a r w e trap f follows run
+  pub seen_fill : CanBeFilled parts page v d → Seen (fill parts page) v d (a, r) w e → FillOutcome parts page v d a r w e
+  unfolding fill
+  seen_fill can (Err busy, m, (keeps, misses, is_busy, held, may), (ea, em, ed)) =
+      let er : r ≡ Again (WasBusy page busy.word) = ap (λ q. q.1) ea in
+      rw er (ap (λ q. q.0) ea, all_may page v w d e (rw em keeps) (rw em held) (rw em may) ed, rw em misses, ed)
+  seen_fill can (
+    Ok u,
+    m,
+    (keeps, nothing, still, holds, may, is_value, quiet, _),
+    (old, n, (keeps', nothing', still', holds', is_old, (was_done, value), _, _), (trap, o, follows, run)),
+  ) =
+      let same : m.values page ≡ v.values page = may_stable (v.values page) (m.values page) can.usage may in
+      let there = stable_there (v.values page) can.usage can.value in
+      let f : IsFillable parts page v d n = record {
+        can = can;
+        keeps = Keeps-trans v m n page keeps keeps';
+        there = there;
+        value = value ∙ ap made_stable same ∙ made_stable-same (v.values page) can.usage there;
+      } in
+      filled_touched n o trap f follows run

@@ -74,24 +74,26 @@ slotted cache (Anon slot index) e = of (swap_slot cache (Anon slot index)) refl
         let same : with_swap_slot cache (Some (Anon slot index)) ≡ assigned cache (Anon slot index) (free_swap cache) = rw none refl in
         subst backs (sym same) (free none (free_swap cache) refl)
 
-to_go-cache : (parts : Parts) (page cpu : ℕ) → (locked_to_go parts page cpu).cache ≡ with_swap_slot parts.cache (info_at parts.pages page).tag
-unfolding locked_to_go
-to_go-cache parts page cpu = refl
+-- parts the guest's tables, page the page, cpu the processor
+module _ (parts : Parts) (page cpu : ℕ) where
+  to_go-cache : (locked_to_go parts page cpu).cache ≡ with_swap_slot parts.cache (info_at parts.pages page).tag
+  unfolding locked_to_go
+  to_go-cache = refl
 
-to_go-pages : (parts : Parts) (page cpu : ℕ) → (locked_to_go parts page cpu).pages ≡ (locked parts page cpu).pages
-unfolding locked_to_go
-to_go-pages parts page cpu = refl
+  to_go-pages : (locked_to_go parts page cpu).pages ≡ (locked parts page cpu).pages
+  unfolding locked_to_go
+  to_go-pages = refl
 
-to_go-info : (parts : Parts) (page cpu : ℕ) → page < length parts.pages.infos → info_at (locked_to_go parts page cpu).pages page ≡ record (info_at parts.pages page) { owner = Some cpu }
-to_go-info parts page cpu below = ap (λ (p : PagesView). info_at p page) (to_go-pages parts page cpu) ∙ (change-locked parts page cpu below).here
+  to_go-info : page < length parts.pages.infos → info_at (locked_to_go parts page cpu).pages page ≡ record (info_at parts.pages page) { owner = Some cpu }
+  to_go-info below = ap (λ (p : PagesView). info_at p page) to_go-pages ∙ (change-locked parts page cpu below).here
 
-to_go-backed : (parts : Parts) (page cpu : ℕ) (tag : Tag) → page < length parts.pages.infos → (info_at parts.pages page).tag ≡ Some tag → lacks_block parts.cache (Some tag) ≡ false
-    → IsSome (backing_at (locked_to_go parts page cpu) page)
-to_go-backed parts page cpu tag below tagged has =
-    let now : (info_at (locked_to_go parts page cpu).pages page).tag ≡ Some tag = ap (λ (i : PageInfo). i.tag) (to_go-info parts page cpu below) ∙ tagged in
-    let at : backing_at (locked_to_go parts page cpu) page ≡ backing_of (locked_to_go parts page cpu).cache tag = rw now refl in
-    let cache : (locked_to_go parts page cpu).cache ≡ with_swap_slot parts.cache (Some tag) = to_go-cache parts page cpu ∙ ap (with_swap_slot parts.cache) tagged in
-    ap (λ o. is_some o) (at ∙ ap (λ (c : CacheView). backing_of c tag) cache) ∙ slotted parts.cache tag has
+  to_go-backed : (tag : Tag) → page < length parts.pages.infos → (info_at parts.pages page).tag ≡ Some tag → lacks_block parts.cache (Some tag) ≡ false
+      → IsSome (backing_at (locked_to_go parts page cpu) page)
+  to_go-backed tag below tagged has =
+      let now : (info_at (locked_to_go parts page cpu).pages page).tag ≡ Some tag = ap (λ (i : PageInfo). i.tag) (to_go-info below) ∙ tagged in
+      let at : backing_at (locked_to_go parts page cpu) page ≡ backing_of (locked_to_go parts page cpu).cache tag = rw now refl in
+      let cache : (locked_to_go parts page cpu).cache ≡ with_swap_slot parts.cache (Some tag) = to_go-cache ∙ ap (with_swap_slot parts.cache) tagged in
+      ap (λ o. is_some o) (at ∙ ap (λ (c : CacheView). backing_of c tag) cache) ∙ slotted parts.cache tag has
 
 -- ---- the page that goes
 

@@ -96,56 +96,54 @@ stayed parts page tag cause v m d x a r w e can same count blocks why run =
 whole_fetch : (all bytes : List ℕ) (size : ℕ) → length bytes ≡ size → length all ≡ size → bytes ≡ take (length bytes) (drop 0 all) → bytes ≡ all
 whole_fetch all bytes size is whole are = grind (arith, common_steps)
 
--- what a write of the block answered
-written : (parts : Parts) (page : ℕ) (tag : Tag) (block : ℕ) (bytes : List ℕ) (v m : StorageView) (d x : DiskView) (was : Result Unit Failed) (a : Parts) (r : Filled) (w : StorageView) (e : DiskView)
-    → CanBeWritten parts page tag v → IsHeldSame page v m → backing_of parts.cache tag ≡ Some block → (v.values page).contents ≡ Bytes bytes → DiskFollows d (Write block bytes was) x
-    → Seen (back_written parts page was) m x (a, r) w e → BackOutcome parts page tag v d a r w e
-written parts page tag block bytes v m d x (Ok u) a r w e can same backs contents (disk, blocks) run =
-    let s = told_back (cleaned parts page) Done page v m x a r w e can.used_clean can.usage can.value can.filled same run in
-    rw s.answered (
-      bytes,
-      contents,
-      record { block = block; backs = backs; keeps = s.keeps; held = s.held; count = rw s.disk disk.count; blocks = rw s.disk blocks },
-      s.rehinted,
-    )
-written parts page tag block bytes v m d x (Err failed) a r w e can same backs contents (disk, was) run =
-    stayed parts page tag Disk v m d x a r w e can same disk.count was.blocks (λ w k. was.risen) run
+-- parts the guest's tables, page the page, tag its tag, v and w its storage before and after, d and e its disk before and after, a the tables after, r the answer
+module _ (parts : Parts) (page : ℕ) (tag : Tag) (v : StorageView) (d : DiskView) (a : Parts) (r : Filled) (w : StorageView) (e : DiskView) where
+  -- what a write of the block answered
+  written : (block : ℕ) (bytes : List ℕ) (m : StorageView) (x : DiskView) (was : Result Unit Failed) → CanBeWritten parts page tag v → IsHeldSame page v m → backing_of parts.cache tag ≡ Some block
+      → (v.values page).contents ≡ Bytes bytes → DiskFollows d (Write block bytes was) x → Seen (back_written parts page was) m x (a, r) w e → BackOutcome parts page tag v d a r w e
+  written block bytes m x (Ok u) can same backs contents (disk, blocks) run =
+      let s = told_back (cleaned parts page) Done page v m x a r w e can.used_clean can.usage can.value can.filled same run in
+      rw s.answered (
+        bytes,
+        contents,
+        record { block = block; backs = backs; keeps = s.keeps; held = s.held; count = rw s.disk disk.count; blocks = rw s.disk blocks },
+        s.rehinted,
+      )
+  written block bytes m x (Err failed) can same backs contents (disk, was) run = stayed parts page tag Disk v m d x a r w e can same disk.count was.blocks (λ w k. was.risen) run
 
--- the bytes were fetched
-fetched : (parts : Parts) (page : ℕ) (tag : Tag) (block : Option ℕ) (bytes : List ℕ) (v m : StorageView) (d : DiskView) (a : Parts) (r : Filled) (w : StorageView) (e : DiskView)
-    → CanBeWritten parts page tag v → IsHeldSame page v m → backing_of parts.cache tag ≡ block → (v.values page).contents ≡ Bytes bytes
-    → Seen (back_fetched parts page block bytes) m d (a, r) w e → BackOutcome parts page tag v d a r w e
-fetched parts page tag (Some block) bytes v m d a r w e can same backs contents (was, x, follows, run) = written parts page tag block bytes v m d x was a r w e can same backs contents follows run
-fetched parts page tag None bytes v m d a r w e can same backs contents run = let bad : None ≡ Some can.block = sym backs ∙ can.backs in absurd cc
+  -- the bytes were fetched
+  fetched : (block : Option ℕ) (bytes : List ℕ) (m : StorageView) → CanBeWritten parts page tag v → IsHeldSame page v m → backing_of parts.cache tag ≡ block → (v.values page).contents ≡ Bytes bytes
+      → Seen (back_fetched parts page block bytes) m d (a, r) w e → BackOutcome parts page tag v d a r w e
+  fetched (Some block) bytes m can same backs contents (was, x, follows, run) = written block bytes m x was can same backs contents follows run
+  fetched None bytes m can same backs contents run = let bad : None ≡ Some can.block = sym backs ∙ can.backs in absurd cc
 
-touched : (parts : Parts) (page : ℕ) (tag : Tag) (v n m : StorageView) (d : DiskView) (trap : Result Unit Trap) (a : Parts) (r : Filled) (w : StorageView) (e : DiskView)
-    → CanBeWritten parts page tag v → IsHeldSame page v n → Follows n (Touch page trap) m → Seen (back_touched parts page trap) m d (a, r) w e → BackOutcome parts page tag v d a r w e
-touched parts page tag v n m d (Ok u) a r w e can x (keeps, nothing, holds, there, value, whole, _, _) (bytes, o, size, (keeps', nothing', still', held', bytes_are, _), run) =
-    let contents : touched_contents n.tells (n.values page).contents ≡ (n.values page).contents =
-    touched_same n.tells (n.values page).contents (ap (λ q. is_blank q.contents) x.value ∙ can.filled) there in
-    let same : m.values page ≡ n.values page = value ∙ ap (λ q. record (n.values page) { contents = q }) contents in
-    let tells : n.tells ≡ true = x.keeps.tells ∙ can.tells in
-    let all = whole tells in
-    let here = held_after page v n m x keeps same in
-    let bytes_all : bytes ≡ all.all = whole_fetch all.all bytes PAGE size all.size (bytes_are (keeps.tells ∙ tells) ∙ ap (λ q. take (length bytes) (drop 0 (bytes_of q))) all.are) in
-    let has : (v.values page).contents ≡ Bytes bytes = ap (λ (q : PageValue). q.contents) (sym here.value) ∙ all.are ∙ ap Bytes (sym bytes_all) in
-    fetched parts page tag (backing_at parts page) bytes v o d a r w e can (held_after page v m o here keeps' held'.1) (sym can.backed_at) has run
-touched parts page tag v n m d (Err Discarded) a r w e can x (keeps, nothing, still, same, lost, _) run =
-    let bad : true ≡ false = sym lost ∙ ap (λ q. is_lost q.contents) x.value ∙ stable_there (v.values page) can.usage can.value in absurd cc
-touched parts page tag v n m d (Err Paging) a r w e can x (keeps, nothing, same, there, fresh, risen, _, _) run =
-    stayed parts page tag PagingCause v m d d a r w e can (held_after page v n m x keeps same.1) refl refl
-    (λ w k. risen_around v.faults n.faults m.faults w.faults x.keeps.faults risen k.faults) run
-touched parts page tag v n m d (Err (NoFrame looks)) a r w e can x (keeps, misses, same, there, fresh, _, _) (o, (keeps', nothing, still, held, value), (ea, em, ed)) =
-    let er : r ≡ Again (HadNoFrame looks) = ap (λ q. q.1) ea in
-    let last = held_after page v m o (held_after page v n m x keeps same.1) keeps' value in
-    let unmoved : w.values page ≡ v.values page = rw em last.value in
-    rw er (ap (λ q. q.0) ea, all_may page v w d e (rw em last.keeps) (rw em held) (inl unmoved) ed, rw em (misses_around v n m o page x.keeps misses keeps'), ed)
+  touched : (n m : StorageView) (trap : Result Unit Trap) → CanBeWritten parts page tag v → IsHeldSame page v n → Follows n (Touch page trap) m → Seen (back_touched parts page trap) m d (a, r) w e
+      → BackOutcome parts page tag v d a r w e
+  touched n m (Ok u) can x (keeps, nothing, holds, there, value, whole, _, _) (bytes, o, size, (keeps', nothing', still', held', bytes_are, _), run) =
+      let contents : touched_contents n.tells (n.values page).contents ≡ (n.values page).contents =
+      touched_same n.tells (n.values page).contents (ap (λ q. is_blank q.contents) x.value ∙ can.filled) there in
+      let same : m.values page ≡ n.values page = value ∙ ap (λ q. record (n.values page) { contents = q }) contents in
+      let tells : n.tells ≡ true = x.keeps.tells ∙ can.tells in
+      let all = whole tells in
+      let here = held_after page v n m x keeps same in
+      let bytes_all : bytes ≡ all.all = whole_fetch all.all bytes PAGE size all.size (bytes_are (keeps.tells ∙ tells) ∙ ap (λ q. take (length bytes) (drop 0 (bytes_of q))) all.are) in
+      let has : (v.values page).contents ≡ Bytes bytes = ap (λ (q : PageValue). q.contents) (sym here.value) ∙ all.are ∙ ap Bytes (sym bytes_all) in
+      fetched (backing_at parts page) bytes o can (held_after page v m o here keeps' held'.1) (sym can.backed_at) has run
+  touched n m (Err Discarded) can x (keeps, nothing, still, same, lost, _) run =
+      let bad : true ≡ false = sym lost ∙ ap (λ q. is_lost q.contents) x.value ∙ stable_there (v.values page) can.usage can.value in absurd cc
+  touched n m (Err Paging) can x (keeps, nothing, same, there, fresh, risen, _, _) run =
+      stayed parts page tag PagingCause v m d d a r w e can (held_after page v n m x keeps same.1) refl refl
+      (λ w k. risen_around v.faults n.faults m.faults w.faults x.keeps.faults risen k.faults) run
+  touched n m (Err (NoFrame looks)) can x (keeps, misses, same, there, fresh, _, _) (o, (keeps', nothing, still, held, value), (ea, em, ed)) =
+      let er : r ≡ Again (HadNoFrame looks) = ap (λ q. q.1) ea in
+      let last = held_after page v m o (held_after page v n m x keeps same.1) keeps' value in
+      let unmoved : w.values page ≡ v.values page = rw em last.value in
+      rw er (ap (λ q. q.0) ea, all_may page v w d e (rw em last.keeps) (rw em held) (inl unmoved) ed, rw em (misses_around v n m o page x.keeps misses keeps'), ed)
 
-pub seen_write_back : (parts : Parts) (page : ℕ) (tag : Tag) (v : StorageView) (d : DiskView) (a : Parts) (r : Filled) (w : StorageView) (e : DiskView)
-    → CanBeWritten parts page tag v → Seen (write_back parts page) v d (a, r) w e → BackOutcome parts page tag v d a r w e
-unfolding write_back
-seen_write_back parts page tag v d a r w e can (Err busy, m, (keeps, misses, is_busy, held, may), (ea, em, ed)) =
-    let er : r ≡ Again (WasBusy page busy.word) = ap (λ q. q.1) ea in
-    rw er (ap (λ q. q.0) ea, all_may page v w d e (rw em keeps) (rw em held) (rw em may) ed, rw em misses, ed)
-seen_write_back parts page tag v d a r w e can (Ok u, m, (keeps, nothing, still, holds, may, is_value, quiet, _), (trap, o, follows, run)) =
-    touched parts page tag v m o d trap a r w e can (record { keeps = keeps; value = may_stable (v.values page) (m.values page) can.usage may }) follows run
+  pub seen_write_back : CanBeWritten parts page tag v → Seen (write_back parts page) v d (a, r) w e → BackOutcome parts page tag v d a r w e
+  unfolding write_back
+  seen_write_back can (Err busy, m, (keeps, misses, is_busy, held, may), (ea, em, ed)) =
+      let er : r ≡ Again (WasBusy page busy.word) = ap (λ q. q.1) ea in
+      rw er (ap (λ q. q.0) ea, all_may page v w d e (rw em keeps) (rw em held) (rw em may) ed, rw em misses, ed)
+  seen_write_back can (Ok u, m, (keeps, nothing, still, holds, may, is_value, quiet, _), (trap, o, follows, run)) =
+      touched m o trap can (record { keeps = keeps; value = may_stable (v.values page) (m.values page) can.usage may }) follows run
