@@ -1,5 +1,5 @@
-ghost use Rattle.std.specs.Prelude.{◌≡◌, ◌+◌, ◌*◌, ◌<◌, ◌≤◌, ◌++◌, [], length, decimal};
-ghost use Rattle.cmm_report.specs.Texts.{hex_digit as digit_of, hex_text};
+ghost use Rattle.std.specs.Prelude.{◌≡◌, ◌+◌, ◌*◌, ◌≤◌, ◌++◌, [], length, decimal};
+ghost use Rattle.cmm_report.specs.Texts.{hex_text};
 
 use arrayvec::ArrayVec;
 use itoa::Buffer;
@@ -20,13 +20,6 @@ impl Model for Line {
     ghost Value = { List ℕ };
 
     ghost view = { λ line. line.bytes.items };
-}
-
-fn hex_digit(n: u8) -> u8
-    requires { n < 16 }
-    ensures { result ≡ digit_of n }
-{
-    if n < 10 { b'0' + n } else { b'a' + (n - 10) }
 }
 
 impl Line {
@@ -69,8 +62,10 @@ impl Line {
         ensures text { self.new ≡ self.old ++ hex_text bytes.now }
         ensures len { length self.new ≡ length self.old + 2 * length bytes.now }
     {
-        for byte in bytes {
-            self.add(&[hex_digit(*byte / 16), hex_digit(*byte % 16)]);
-        }
+        let mut room = [0; LINE];
+        let digits = &mut room[..2 * bytes.len()];
+        // It refuses only slices of another length.
+        let _ = hex::encode_to_slice(bytes, digits);
+        self.add(digits);
     }
 }
