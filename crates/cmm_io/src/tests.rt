@@ -1,10 +1,12 @@
+ghost use Rattle.std.specs.Prelude.{◌≡◌, IfOk};
+
 use crate::{
     Disk, Failed, MemDisk, MemSink, MemSource, ReadError, Sink, Source, StdSink, StdSource,
     WriteFault, read_all, write_all,
 };
 use cmm_types::{FilePlan, Items, PAGE};
 use std::io;
-use std::io::Write;
+use std::io::{ErrorKind, Read, Write};
 use std::test::Fail;
 
 /// The smallest scenario of the worked rows.
@@ -147,4 +149,60 @@ fn a_writer_that_takes_nothing_has_failed(rt: HostRuntime) {
     assert_eq!(rt; sink.faults(), 0);
     assert_eq!(rt; write_all(&mut sink, b"more"), Err(WriteFault));
     assert_eq!(rt; sink.faults(), 1);
+}
+
+/// Carries so many bytes, one at each call, and fails from then on.
+#[derive(Drop)]
+struct CutCable {
+    left: u32,
+}
+
+impl CutCable {
+    fn carry(&mut self) -> io::Result<usize>
+        ensures { IfOk result (λ n. n ≡ 1) }
+    {
+        if self.left == 0 {
+            return Err(io::Error::from(ErrorKind::ConnectionReset));
+        }
+        self.left -= 1;
+        Ok(1)
+    }
+}
+
+impl Read for CutCable {
+    fn read(&mut self, buf: &mut [u8]) -> io::Result<usize> {
+        if buf.is_empty() {
+            return Ok(0);
+        }
+        buf[0] = b'a';
+        self.carry()
+    }
+}
+
+impl Write for CutCable {
+    fn write(&mut self, buf: &[u8]) -> io::Result<usize> {
+        if buf.is_empty() {
+            return Ok(0);
+        }
+        self.carry()
+    }
+
+    fn flush(&mut self) -> io::Result<()> {
+        Ok(())
+    }
+}
+
+#[test]
+fn an_end_of_std_that_fails_in_mid_stream_is_a_fault(rt: HostRuntime) -> Result<(), Fail> {
+    let mut source = StdSource::new(CutCable { left: 3 });
+    match read_all(rt.alloc(), &mut source, 1000) {
+        Ok(_) => assert!(rt; false, "three bytes and a failure"),
+        Err(error) => assert_eq!(rt; error, ReadError::ReadFault),
+    }
+    assert_eq!(rt; source.faults(), 1);
+    let mut sink = StdSink::new(CutCable { left: 5 });
+    assert_eq!(rt; write_all(&mut sink, b"two"), Ok(()));
+    assert_eq!(rt; write_all(&mut sink, b"more"), Err(WriteFault));
+    assert_eq!(rt; sink.faults(), 1);
+    Ok(())
 }
