@@ -11,7 +11,7 @@ use Rattle.cmm_types.specs.InRange.{ScenarioInRange, GuestInRange}
 use Rattle.cmm_flat.specs.Laws.CountLaws.{legal-most}
 use Rattle.cmm_report.specs.Report.{GuestReport}
 use Rattle.guest_rules.specs.GuestState.{GuestState, opening_guest}
-use Rattle.guest_rules.proofs.Ready.ReadyCalls.{all_commands-bound}
+use Rattle.cmm_flat.specs.Laws.CommandLaws.{all_commands-bound}
 use Rattle.cmm_types.specs.NoPlan.{no_plan}
 use Rattle.cmm_world.specs.WorldState.{WorldState, guest_at}
 use Rattle.cmm_world.specs.WorldView.{WorldView, plans_of, discards_of}

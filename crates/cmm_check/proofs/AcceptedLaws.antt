@@ -1,12 +1,11 @@
 -- What is accepted is a legal report.
-use Rattle.std.proofs.Common.{◌≡◌, ◌∙◌, ℕ, zero, suc, ◌+◌, ◌^◌, ◌<◌, ◌≤◌, ◌⊎◌, inl, inr, Bool, true, false, cond, List, [], ◌∷◌, ◌++◌, Option, Some, None, Result}
+use Rattle.std.proofs.Common.{◌≡◌, ◌∙◌, ℕ, zero, suc, ◌+◌, ◌^◌, ◌<◌, ◌≤◌, ◌⊎◌, inl, inr, Bool, true, false, List, [], ◌∷◌, ◌++◌, Option, Some, None, Result}
 use Rattle.std.proofs.Common.{Ok, Err, length, refl, sym, ap, subst, arith, append_assoc}
 use Rattle.std.specs.Prelude.{◌&&◌, ◌||◌, ◌==◌, nat_le, nat_lt, is_none, is_some, if◌then◌else◌, codes, decimal, sum_by}
 use Rattle.std.specs.List.{AllByRecursion}
 use Rattle.std.specs.Str.{bytes_eq}
 use Rattle.std.proofs.lemmas.Bool.{and_parts, eqb-true, leb-true, ltb-true, true≢false}
 use Rattle.std.proofs.lemmas.List.Elements.{All-from_recursion}
-use Rattle.std.proofs.lemmas.List.Sums.{sum_by-cons}
 use Rattle.cmm_types.specs.declared.plan.GuestPlan.{GuestPlan}
 use Rattle.cmm_types.specs.declared.plan.Scenario.{Scenario}
 use Rattle.cmm_types.specs.declared.event.Answer.{Answer}
@@ -21,13 +20,15 @@ use Rattle.cmm_types.specs.declared.command.Cause.TheVariants.{Disk, Paging, NoP
 use Rattle.cmm_types.specs.declared.command.Reply.{Reply}
 use Rattle.cmm_types.specs.declared.command.Reply.TheVariants.{Done, Bytes, Refused, Fail}
 use Rattle.cmm_types.specs.declared.command.Entry.{Entry}
+use Rattle.cmm_types.specs.Sums.{one_if}
 use Rattle.cmm_flat.specs.Flat.{refusal_of, flat_step}
-use Rattle.cmm_flat.specs.Failures.{is_disk_failure, is_paging_failure, replies_of, disk_failures, paging_failures}
+use Rattle.cmm_flat.specs.Failures.{is_disk_failure, is_paging_failure, disk_failures, paging_failures}
 use Rattle.cmm_flat.specs.Laws.FlatLaws.{never_fails}
 use Rattle.cmm_flat.specs.Legal.{Walk, CanFail, CanNeedPage, HasNoPage, IsReply, IsNext, progress_of, command_of, process_of, over_live, pinned_pages, anonymous_pages}
 use Rattle.cmm_flat.specs.Legal.{LegalFrom, Legal, Complete, all_commands, after}
 use Rattle.cmm_flat.specs.Laws.LegalLaws.{IsReply-from_step}
 use Rattle.cmm_flat.specs.Laws.CountLaws.{complete-from_all}
+use Rattle.cmm_flat.specs.Laws.CommandLaws.{replies-cons}
 use Rattle.cmm_report.specs.Texts.{answer_text, reply_text}
 use Rattle.cmm_report.specs.Lines.{line, head_line, event_line, guest_line, entry_line, end_line}
 use Rattle.cmm_report.specs.Report.{GuestReport, events_text, journal_text, guest_text, guests_text}
@@ -94,12 +95,6 @@ failure plan walked process op (NoPage pinned unslotted) h =
     (needs op front.0, no_refusal (refusal_of walked.walk.flat process op) front.1, no_page plan walked.walk pinned unslotted both.1)
 
 -- ---- what is left of the failures
-
-abbrev pub one_if : Bool → ℕ
-one_if b = cond b 1 0
-
-pub replies-cons : (kind : Reply → Bool) (entry : Entry) (journal : List Entry) → replies_of kind (entry ∷ journal) ≡ one_if (kind entry.reply) + replies_of kind journal
-replies-cons kind entry journal = sum_by-cons (λ (e : Entry). one_if (kind e.reply)) entry journal
 
 -- the reply and those that may come after it are no more than may come here
 pub record Counted (walked : LinesWalked) (reply : Reply) : Type 0 where

@@ -21,11 +21,13 @@ use Rattle.cmm_types.specs.declared.command.Reply.{Reply}
 use Rattle.cmm_types.specs.declared.command.Reply.TheVariants.{Done, Bytes, Refused, Fail}
 use Rattle.cmm_types.specs.declared.command.Entry.{Entry}
 use Rattle.cmm_types.specs.InRange.{GuestInRange, ScenarioInRange}
+use Rattle.cmm_types.specs.Sums.{one_if}
 use Rattle.cmm_flat.specs.Flat.{refusal_of, flat_step}
 use Rattle.cmm_flat.specs.Failures.{is_disk_failure, is_paging_failure, disk_failures, paging_failures}
 use Rattle.cmm_flat.specs.Legal.{Walk, CanFail, CanNeedPage, HasNoPage, IsReply, IsNext, progress_of, command_of, process_of, over_live, pinned_pages, anonymous_pages}
 use Rattle.cmm_flat.specs.Legal.{LegalFrom, Legal, Complete, all_commands, after, start_of}
 use Rattle.cmm_flat.specs.Laws.CountLaws.{legal-most, complete-all}
+use Rattle.cmm_flat.specs.Laws.CommandLaws.{all_commands-bound, replies-cons}
 use Rattle.cmm_report.specs.Texts.{answer_text, cause_text, reply_text}
 use Rattle.cmm_report.specs.Lines.{line, head_line, event_line, guest_line, entry_line, end_line}
 use Rattle.cmm_report.specs.Report.{GuestReport, events_text, journal_text, guest_text, guests_text}
@@ -46,8 +48,8 @@ use Rattle.cmm_check.specs.Accepted.{IsLegalGuest, AreLegalGuests, LegalReport}
 use Rattle.cmm_check.proofs.ReadingLaws.{then_some, given_true, bytes_same, cut-append, without_front-append, long_of-decimal, numeral_of-decimal}
 use Rattle.cmm_check.proofs.EntryLaws.{cause_of-text, plain_refusal, plain_bytes, entry_head-text}
 use Rattle.cmm_check.proofs.AnswerLaws.{answer_of-text, event_head-text}
-use Rattle.cmm_check.proofs.Plans.{processor_there, number_small, commands_bound}
-use Rattle.cmm_check.proofs.AcceptedLaws.{one_if, replies-cons, guest_parts, guest_words}
+use Rattle.cmm_check.proofs.Plans.{processor_there, number_small}
+use Rattle.cmm_check.proofs.AcceptedLaws.{guest_parts, guest_words}
 
 -- ---- replies
 
@@ -286,7 +288,7 @@ entries_told-text : (run : Bool) (number : ℕ) (plan : GuestPlan) (guest : Gues
 unfolding entries_told
 entries_told-text run number plan guest first range is =
     let n = length guest.journal in
-    let short : n < 2 ^ 32 = omega (arith, legal-most plan guest.journal is.legal, commands_bound plan range) in
+    let short : n < 2 ^ 32 = omega (arith, legal-most plan guest.journal is.legal, all_commands-bound plan range) in
     let head = guest_head-text number n guest.discards guest.faults (omega (arith, first)) short is.counted (omega (arith, is.faults, is.counted)) in
     then_some (guest_head (guest_words number n guest.discards guest.faults)) _ (number, (n, (guest.discards, guest.faults))) _ head
     (given_true ((number == number) && are_entries run plan n && nat_le guest.faults guest.discards) n

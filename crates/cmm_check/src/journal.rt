@@ -150,7 +150,7 @@ impl Journal {
     }
 
     /// The command of this number of a processor, where it is the processor's next.
-    #[tactic(auto, unfolding(crate::specs::Journal::entry_due), using(crate::proofs::Plans::command_in_range, crate::proofs::Plans::processor_there, crate::proofs::Plans::number_small))]
+    #[tactic(auto, unfolding(crate::specs::Journal::entry_due), using(cmm_flat::specs::Laws::CommandLaws::command_in_range, crate::proofs::Plans::processor_there, crate::proofs::Plans::number_small))]
     fn due<'a>(&self, plan: &'a GuestPlan, cpu: u32, k: u32) -> Option<&'a Op>
         requires same { length self.now.walk.cpus ≡ length plan.now.cpus }
         requires range { GuestInRange plan.now }

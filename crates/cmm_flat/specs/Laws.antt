@@ -1,6 +1,7 @@
 -- Laws of the definitions beside this folder, which proofs here and in other crates cite. Nobody has to believe them.
 pub mod BytesLaws
 pub mod CountLaws
+pub mod CommandLaws
 pub mod FlatLaws
 pub mod LegalLaws
 pub mod PlaceLaws

@@ -3,13 +3,11 @@ use Rattle.std.specs.Prelude.{◌≡◌, ℕ, ◌+◌, ◌-◌, ◌^◌, ◌<◌
 use Rattle.std.proofs.Common.{refl, sym, ap, subst, arith, ◌∙◌}
 use Rattle.std.proofs.lemmas.Bool.{eqb-true}
 use Rattle.std.proofs.lemmas.List.Elements.{All-head, All-tail}
+use Rattle.cmm_types.specs.Sums.{one_if}
 use Rattle.cmm_io.specs.Faults.{raised}
 use Rattle.cmm_io.specs.FailurePlan.{FailurePlan, is_in, failure_plan_of, fails_next, after_call, after_next}
 use Rattle.cmm_io.specs.Counted.{IsCounted, distinct, reached}
 use Rattle.cmm_io.proofs.Planned.{is_in-in_order}
-
-abbrev one_if : Bool → ℕ
-one_if b = cond b 1 0
 
 -- a number that comes again adds nothing
 reached-again : (x : ℕ) (xs : List ℕ) (calls : ℕ) → is_in xs x ≡ true → reached (x ∷ xs) calls ≡ reached xs calls

@@ -9,7 +9,8 @@ use Rattle.frame_pool.specs.PoolRule.{Homes, only, named_once, names, lent_once,
 use Rattle.frame_pool.specs.declared.view.PoolView.{PoolView}
 use Rattle.frame_pool.specs.declared.view.Named.{Named}
 use Rattle.frame_pool.specs.declared.view.Named.TheVariants.{Idle, Taken, Lent, Pair, Spent}
-use Rattle.frame_pool.proofs.Sums.{total_le, below-add, below-none, below-only, below-gap}
+use Rattle.cmm_types.specs.Laws.SumLaws.{sum_below-add, sum_below-none}
+use Rattle.frame_pool.proofs.Sums.{total_le, below-only, below-gap}
 use Rattle.frame_pool.proofs.Changes.{St}
 
 -- how often the view names the word i without its slot
@@ -30,19 +31,22 @@ lent_is_named i (Lent k) = omega arith
 lent_is_named i (Pair k l) = omega arith
 lent_is_named i Spent = omega arith
 
+no_sum : (n : ℕ) → sum_below (λ _. 0) n ≡ 0
+no_sum n = sum_below-none (λ _. 0) n (λ i below. refl)
+
 -- who lends, lends words below n
 lends_one : (homes : Homes) (n : ℕ) (d : Named) → SlotFits homes n d → sum_below (λ i. lent_as i d) n ≡ lent_once d
-lends_one homes n Idle fits = below-none n
-lends_one homes n (Taken k) fits = below-none n
+lends_one homes n Idle fits = no_sum n
+lends_one homes n (Taken k) fits = no_sum n
 lends_one homes n (Lent k) fits = (below-only k n).0 fits.0
-lends_one homes n (Pair k l) fits = omega (arith, below-add (λ i. only i k) (λ i. only i l) n, (below-only k n).0 fits.0.0, (below-only l n).0 fits.1.0)
-lends_one homes n Spent fits = below-none n
+lends_one homes n (Pair k l) fits = omega (arith, sum_below-add (λ i. only i k) (λ i. only i l) n, (below-only k n).0 fits.0.0, (below-only l n).0 fits.1.0)
+lends_one homes n Spent fits = no_sum n
 
 -- the frames lent, word by word
 lent_words : (homes : Homes) (n : ℕ) (vs : List PoolView) → ((j : ℕ) (v : PoolView) → get_elem? vs j ≡ some v → SlotFits homes n v.named) → sum_below (λ i. total (lends_word i) vs) n ≡ total lent vs
-lent_words homes n [] fits = below-none n
+lent_words homes n [] fits = no_sum n
 lent_words homes n (v ∷ vs) fits =
-    omega (arith, below-add (λ i. lends_word i v) (λ i. total (lends_word i) vs) n, lends_one homes n v.named (fits 0 v refl), lent_words homes n vs (λ j u e. fits (suc j) u e))
+    omega (arith, sum_below-add (λ i. lends_word i v) (λ i. total (lends_word i) vs) n, lends_one homes n v.named (fits 0 v refl), lent_words homes n vs (λ j u e. fits (suc j) u e))
 
 pub named_most : (region : RegionView) (homes : Homes) (vs : List PoolView) (i x : ℕ) → WordFits region homes vs i x → total (names i) vs ≤ 1
 named_most region homes vs i zero fits = omega (arith, fits.0)

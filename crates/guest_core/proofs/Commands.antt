@@ -13,7 +13,7 @@ use Rattle.guest_rules.specs.GuestState.{GuestState, processor_at}
 use Rattle.guest_rules.specs.Calls.{CanMap, CanPin}
 use Rattle.guest_rules.specs.Fit.{IsSyncing}
 use Rattle.guest_rules.proofs.Cases.TurnCases.{Has, Starts, HasItsTag, pin_op}
-use Rattle.guest_rules.proofs.Cases.Commands.{command-in_range}
+use Rattle.cmm_flat.specs.Laws.CommandLaws.{command_in_range}
 use Rattle.guest_rules.proofs.Cases.WantedTags.{write-piece}
 use Rattle.guest_rules.proofs.Cases.Placed.{ReachesPlace, pin-reaches}
 use Rattle.guest_rules.proofs.Cases.Reached.{Reaches, load_reaches, store_reaches}
@@ -120,7 +120,7 @@ module _ (g : GuestState) (v : StorageView) (fit : IsFit g v) (cpu : ℕ) (op : 
 
   pub new-own : (number count : ℕ) → Has g cpu op → op ≡ MapAnon number count → IsMapping (process_of g.plan cpu) number OfItsOwn count
   new-own number count has is =
-      let pages = command-in_range g.plan cpu (processor_at g cpu).place (MapAnon number count) fit.1.sizes.range (subst (λ q. Has g cpu q) is has).command in
+      let pages = command_in_range g.plan cpu (processor_at g cpu).place (MapAnon number count) fit.1.sizes.range (subst (λ q. Has g cpu q) is has).command in
       (process-below g v fit.0 cpu fit.1, pages.0, pages.1)
 
   pub slot-free_own : (number count : ℕ) → Starts g cpu op → op ≡ MapAnon number count → IsSome (free_slot g.parts.maps)

@@ -3,8 +3,9 @@ use Rattle.std.proofs.Common.{◌≡◌, ◌≢◌, ℕ, zero, suc, ◌+◌, ◌
 use Rattle.std.proofs.lemmas.List.{get_or_past}
 use Rattle.std.proofs.lemmas.List.Sums.{sum_by-cons, sum_by-set, get_or-le-sum_by}
 use Rattle.std.proofs.lemmas.Bool.{cases_Bool, cases_lt, cond-true, cond-false, eqb-true, both_ways, and_parts, false_from_ne_true}
+use Rattle.cmm_types.specs.Sums.{one_if}
 use Rattle.guest_maps.specs.declared.slot.Pte.{Pte}
-use Rattle.guest_maps.specs.MapsView.{one_if, shows, stores_to, unless_shows}
+use Rattle.guest_maps.specs.MapsView.{shows, stores_to, unless_shows}
 
 -- ---- one entry
 

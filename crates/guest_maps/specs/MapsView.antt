@@ -152,10 +152,6 @@ abbrev pub stores_to : ℕ → Option Pte → Bool
 stores_to page None = false
 stores_to page (Some pte) = pte.writable && pte.page == page
 
--- one where a test holds
-abbrev pub one_if : Bool → ℕ
-one_if b = cond b 1 0
-
 -- how many entries show a page
 abbrev pub entries_showing : MapsView → ℕ → ℕ
 entries_showing maps page = count_by (shows page) maps.entries

@@ -5,6 +5,7 @@ use Rattle.cmm_types.specs.declared.page.Tag.{Tag}
 use Rattle.cmm_types.specs.declared.page.Tag.TheVariants.{Anon}
 use Rattle.cmm_types.specs.declared.command.Cause.{Cause}
 use Rattle.cmm_types.specs.declared.command.Cause.TheVariants.{Disk, Paging, NoPage as NoPageCause}
+use Rattle.cmm_types.specs.Sums.{one_if}
 use Rattle.cmm_io.specs.Faults.{HasRisen, raised}
 use Rattle.cmm_io.specs.DiskView.{DiskView, with_block}
 use Rattle.essa_state.specs.PageValue.{PageValue, Bytes, IsValue, MayBecome, is_lost, is_blank}
@@ -13,7 +14,7 @@ use Rattle.cmm_types.specs.Bytes.{with_bytes}
 use Rattle.guest_pages.specs.PagesView.{info_at, free_info}
 use Rattle.guest_cache.specs.CacheView.{page_of, swap_slot}
 use Rattle.guest_maps.specs.declared.slot.Pte.{Pte}
-use Rattle.guest_maps.specs.MapsView.{entries_showing, with_entry, with_pinned, one_if}
+use Rattle.guest_maps.specs.MapsView.{entries_showing, with_entry, with_pinned}
 use Rattle.guest_rules.specs.declared.parts.Parts.{Parts}
 use Rattle.guest_rules.specs.declared.outcome.Gone.{Gone}
 use Rattle.guest_rules.specs.declared.outcome.Filled.{Filled}

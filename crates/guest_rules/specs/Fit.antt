@@ -17,7 +17,7 @@ use Rattle.cmm_flat.specs.declared.mapping.Mapping.{Mapping}
 use Rattle.cmm_flat.specs.declared.mapping.Shown.{Shown as FlatShown}
 use Rattle.cmm_flat.specs.declared.mapping.Shown.TheVariants.{OfFile as FlatFile, Anonymous}
 use Rattle.cmm_types.specs.Bytes.{bytes_at, zero_page}
-use Rattle.cmm_types.specs.Sums.{sum_below}
+use Rattle.cmm_types.specs.Sums.{sum_below, one_if}
 use Rattle.cmm_flat.specs.State.{FlatState, IsSound, mapping_at, file_at}
 use Rattle.cmm_flat.specs.Legal.{Legal, flat_of, walk_of, start_of, progress_of, command_of, process_of}
 pub use Rattle.cmm_flat.specs.Legal.{all_commands}
@@ -30,7 +30,7 @@ use Rattle.guest_maps.specs.declared.slot.Pte.{Pte}
 use Rattle.guest_maps.specs.declared.slot.Slot.{Slot}
 use Rattle.guest_maps.specs.declared.slot.Shown.{Shown}
 use Rattle.guest_maps.specs.declared.slot.Shown.TheVariants.{File as OfFile, Anon}
-use Rattle.guest_maps.specs.MapsView.{MapsView, slot_at, find_slot, live_slots, entry_at, pinned_at, tag_at, writers_showing, IsPlace, one_if}
+use Rattle.guest_maps.specs.MapsView.{MapsView, slot_at, find_slot, live_slots, entry_at, pinned_at, tag_at, writers_showing, IsPlace}
 use Rattle.guest_rules.specs.declared.parts.Parts.{Parts}
 use Rattle.guest_rules.specs.declared.processor.Phase.{Phase}
 use Rattle.guest_rules.specs.declared.processor.Processor.{Processor}

@@ -7,6 +7,7 @@ use Rattle.cmm_types.specs.declared.page.Usage.TheVariants.{S, U, P, V}
 use Rattle.cmm_types.specs.declared.command.Cause.{Cause}
 use Rattle.cmm_types.specs.declared.command.Cause.TheVariants.{Disk, Paging as PagingCause}
 use Rattle.cmm_types.specs.declared.turn.Why.TheVariants.{Busy as WasBusy, NoFrame as HadNoFrame}
+use Rattle.cmm_types.specs.Sums.{one_if}
 use Rattle.cmm_io.specs.Faults.{raised}
 use Rattle.cmm_io.specs.declared.failed.Failed.{Failed}
 use Rattle.essa_state.specs.declared.orders.Order.TheVariants.{SetUnused, SetVolatile, SetPotential, SetStableResident, SetStableIf}
@@ -19,7 +20,7 @@ use Rattle.guest_pages.specs.PagesView.{free_info, info_at, with_info, with_upto
 use Rattle.guest_pages.specs.declared.info.PageInfo.{PageInfo}
 use Rattle.guest_cache.specs.CacheView.{CacheView, without_page, backing_of, swap_slot, unassigned}
 use Rattle.guest_maps.specs.declared.slot.Pte.{Pte}
-use Rattle.guest_maps.specs.MapsView.{with_entry, without_entries_of, with_pinned, one_if}
+use Rattle.guest_maps.specs.MapsView.{with_entry, without_entries_of, with_pinned}
 use Rattle.guest_rules.specs.declared.parts.Parts.{Parts}
 use Rattle.guest_rules.specs.declared.outcome.Gone.{Gone}
 use Rattle.guest_rules.specs.declared.outcome.Filled.{Filled}

@@ -4,8 +4,9 @@ use Rattle.std.proofs.lemmas.List.{length-set, length-replicate, get_or-set_same
 use Rattle.std.proofs.lemmas.List.Sums.{sum_by-cons, sum_by-set}
 use Rattle.std.proofs.lemmas.Bool.{cases_Bool, cases_eq, cases_lt, eqb-true, eq-eqb, and_parts, and_from, false_from_ne_true, both_ways}
 use Rattle.cmm_types.specs.declared.plan.TheConstants.{MAX_MAPPING_SLOTS}
+use Rattle.cmm_types.specs.Sums.{one_if}
 use Rattle.guest_maps.specs.declared.slot.Slot.{Slot}
-use Rattle.guest_maps.specs.MapsView.{is_live_slot, is_torn, is_mapping, IsInRange, AreInRange, AreSlots, torn, one_if}
+use Rattle.guest_maps.specs.MapsView.{is_live_slot, is_torn, is_mapping, IsInRange, AreInRange, AreSlots, torn}
 use Rattle.guest_maps.specs.FirstPlace.{position_kept, position_only, position_none, none_passes}
 
 -- ---- one slot's mapping

@@ -18,20 +18,20 @@ use Rattle.cmm_storage.specs.StorageView.{StorageView}
 use Rattle.guest_pages.specs.PagesView.{info_at}
 use Rattle.guest_maps.specs.declared.slot.Pte.{Pte}
 use Rattle.guest_maps.specs.declared.slot.Slot.{Slot}
-use Rattle.guest_maps.specs.MapsView.{slot_at, find_slot, free_slot, live_slots, is_torn, torn_slots, entry_at, tag_of, tag_at, one_if}
+use Rattle.guest_maps.specs.MapsView.{slot_at, find_slot, free_slot, live_slots, is_torn, torn_slots, entry_at, tag_of, tag_at}
 use Rattle.guest_maps.specs.Laws.MapsLaws.{free_slot-some}
 use Rattle.guest_rules.specs.declared.processor.Phase.{Phase}
 use Rattle.guest_rules.specs.declared.processor.Phase.TheVariants.{Start, Fill, Room as AtRoom, Sync as AtSync, SyncWrite, Teardown}
 use Rattle.guest_rules.specs.GuestState.{GuestState, processor_at}
 use Rattle.guest_rules.specs.Turns.{mapping_pages, refusal_at, refusal_of_new}
-use Rattle.cmm_types.specs.Sums.{sum_below}
+use Rattle.cmm_types.specs.Sums.{sum_below, one_if}
 use Rattle.guest_rules.specs.Fit.{TeardownsFit, FitAt}
 use Rattle.guest_rules.proofs.Cases.TurnCases.{Starts, Wants, Maps, CanBeSet, pin_op, ShowsPage}
 use Rattle.guest_rules.proofs.Cases.MapsFound.{found_slot, tag_at-place}
 use Rattle.guest_rules.proofs.Kept.PageFits.{tagged-below}
 use Rattle.guest_rules.proofs.Kept.PinLaws.{sum_below-at, sum_below-most}
 use Rattle.guest_rules.proofs.Kept.Sums.{sum_below-mono, sum_below-swap, sum_below-single, count_below, at_most, at_most-then}
-use Rattle.guest_rules.proofs.Cases.Commands.{command-in_range}
+use Rattle.cmm_flat.specs.Laws.CommandLaws.{command_in_range}
 use Rattle.guest_rules.proofs.Fit.StepResolved.{accepted_at}
 
 within_pages : (off len pages : ℕ) → off + len ≤ PAGE * pages → 1 ≤ len → off / PAGE < pages
@@ -89,14 +89,14 @@ module _ (state : FlatState) (g : GuestState) (v : StorageView) (d : DiskView) w
   pub load_reaches : (cpu number off len slot : ℕ) → FitAt state g v d → Starts g cpu (Load number off len) → find_slot g.parts.maps (process_of g.plan cpu) number ≡ Some slot
       → Reaches g cpu (Load number off len) false slot off
   load_reaches cpu number off len slot f starts found =
-      let range = command-in_range g.plan cpu (processor_at g cpu).place (Load number off len) f.sizes.range starts.has.command in
+      let range = command_in_range g.plan cpu (processor_at g cpu).place (Load number off len) f.sizes.range starts.has.command in
       let k = reached (process_of g.plan cpu) number false off len slot f found starts.accepted range.1.some in
       record { starts = starts; maps = (refl, found, refl); tag = k.tag; shown = k.shown; wants = rw found k.shown; within = k.within }
 
   pub store_reaches : (cpu number off : ℕ) (bytes : List ℕ) (slot : ℕ) → FitAt state g v d → Starts g cpu (Store number off bytes) → find_slot g.parts.maps (process_of g.plan cpu) number ≡ Some slot
       → Reaches g cpu (Store number off bytes) true slot off
   store_reaches cpu number off bytes slot f starts found =
-      let range = command-in_range g.plan cpu (processor_at g cpu).place (Store number off bytes) f.sizes.range starts.has.command in
+      let range = command_in_range g.plan cpu (processor_at g cpu).place (Store number off bytes) f.sizes.range starts.has.command in
       let k = reached (process_of g.plan cpu) number true off (length bytes) slot f found starts.accepted range.1.some in
       record { starts = starts; maps = (refl, found, refl); tag = k.tag; shown = k.shown; wants = rw found k.shown; within = k.within }
 

@@ -26,7 +26,7 @@ use Rattle.guest_rules.specs.GuestState.{GuestState, processor_at}
 use Rattle.guest_rules.specs.Turns.{file_pages, file_has_bytes, refusal_in}
 use Rattle.guest_rules.specs.Fit.{SizesFit, SlotsFit, HasShownPages, IsFlatTag}
 use Rattle.guest_rules.proofs.Cases.TurnCases.{Has, Starts, Wants, found_tag}
-use Rattle.guest_rules.proofs.Cases.Commands.{command-in_range}
+use Rattle.cmm_flat.specs.Laws.CommandLaws.{command_in_range}
 use Rattle.guest_rules.proofs.Cases.MapsFound.{found_slot}
 
 -- ---- what a place of a mapping shows
@@ -105,10 +105,10 @@ module _ (g : GuestState) (v : StorageView) (d : DiskView) where
   write-bytes process file off bytes f e = has_bytes-file file off (length bytes) f (accepted_within (file_has_bytes g.plan.files file off (length bytes)) e)
 
   pub read-piece : (cpu file off len : ℕ) → SizesFit g v d → Has g cpu (Read file off len) → IsPiece off len
-  read-piece cpu file off len f has = (command-in_range g.plan cpu (processor_at g cpu).place (Read file off len) f.range has.command).1
+  read-piece cpu file off len f has = (command_in_range g.plan cpu (processor_at g cpu).place (Read file off len) f.range has.command).1
 
   pub write-piece : (cpu file off : ℕ) (bytes : List ℕ) → SizesFit g v d → Has g cpu (Write file off bytes) → IsPiece off (length bytes)
-  write-piece cpu file off bytes f has = (command-in_range g.plan cpu (processor_at g cpu).place (Write file off bytes) f.range has.command).1
+  write-piece cpu file off bytes f has = (command_in_range g.plan cpu (processor_at g cpu).place (Write file off bytes) f.range has.command).1
 
 page_within : (off len pages : ℕ) → 1 ≤ len → off + len ≤ PAGE * pages → off / PAGE < pages
 page_within off len pages some within = omega arith

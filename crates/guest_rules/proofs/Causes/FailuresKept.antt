@@ -1,7 +1,7 @@
 -- No more commands of a guest fail than calls of its disk and its pager do.
-use Rattle.std.specs.Prelude.{◌≡◌, ◌⊎◌, ◌<◌, ◌≤◌, ℕ, zero, suc, ◌+◌, ◌-◌, ◌^◌, ◌++◌, ◌∷◌, [], List, length, Bool, cond}
+use Rattle.std.specs.Prelude.{◌≡◌, ◌⊎◌, ◌<◌, ◌≤◌, ℕ, zero, suc, ◌+◌, ◌-◌, ◌^◌, ◌++◌, ◌∷◌, [], List, length, Bool}
 use Rattle.std.proofs.Common.{sym, ap, subst, inl, inr, arith, ◌∙◌}
-use Rattle.std.proofs.lemmas.List.Sums.{sum_by-cons, sum_by_push, count_by-le-length}
+use Rattle.std.proofs.lemmas.List.Sums.{sum_by_push, count_by-le-length}
 use Rattle.cmm_types.specs.declared.plan.GuestPlan.{GuestPlan}
 use Rattle.cmm_types.specs.declared.command.Op.{Op}
 use Rattle.cmm_types.specs.declared.command.Entry.{Entry}
@@ -11,6 +11,7 @@ use Rattle.cmm_types.specs.declared.command.Cause.TheVariants.{Disk, Paging, NoP
 use Rattle.cmm_types.specs.declared.turn.Turn.{Turn}
 use Rattle.cmm_types.specs.declared.turn.Turn.TheVariants.{Moved, Finished, Waits, Again, Idle}
 use Rattle.cmm_types.specs.declared.turn.Alone.{Alone}
+use Rattle.cmm_types.specs.Sums.{one_if}
 use Rattle.cmm_io.specs.Faults.{HasRisen}
 use Rattle.cmm_io.specs.DiskView.{DiskView}
 use Rattle.cmm_io.specs.FailurePlan.{FailurePlan}
@@ -28,18 +29,13 @@ use Rattle.guest_rules.specs.Cause.{AnswerCause, HasFinished, HasUnmapped, HasTo
 use Rattle.guest_rules.specs.Failures.{FailuresFit, disk_failures, paging_failures, is_disk_failure, is_paging_failure, replies_of}
 use Rattle.guest_rules.specs.FlatReplies.{IsFlatReply, HasFlatRepliesFrom}
 use Rattle.guest_rules.specs.FailsAsPlanned.{FailsAsPlanned}
-use Rattle.guest_rules.proofs.Ready.ReadyCalls.{journal-most, all_commands-bound}
+use Rattle.cmm_flat.specs.Laws.CommandLaws.{all_commands-bound, replies-cons}
+use Rattle.guest_rules.proofs.Ready.ReadyCalls.{journal-most}
 use Rattle.guest_rules.proofs.TurnLaws.{Fit-turn, Causes-turn, plan-turn}
-
-abbrev one_if : Bool → ℕ
-one_if b = cond b 1 0
 
 -- one more entry
 replies-push : (kind : Reply → Bool) (journal : List Entry) (entry : Entry) → replies_of kind (journal ++ entry ∷ []) ≡ replies_of kind journal + one_if (kind entry.reply)
 replies-push kind journal entry = sum_by_push (λ (e : Entry). one_if (kind e.reply)) journal entry
-
-replies-cons : (kind : Reply → Bool) (entry : Entry) (journal : List Entry) → replies_of kind (entry ∷ journal) ≡ one_if (kind entry.reply) + replies_of kind journal
-replies-cons kind entry journal = sum_by-cons (λ (e : Entry). one_if (kind e.reply)) entry journal
 
 -- a count that is no more than one that has risen can be one more, where it is short of the end
 one_more : (n before after : ℕ) → n ≤ before → n < 2 ^ 64 - 1 → HasRisen before after → n + 1 ≤ after

@@ -18,7 +18,7 @@ use Rattle.guest_rules.specs.GuestState.{GuestState, processor_at, entered}
 use Rattle.guest_rules.specs.Fit.{FitAt}
 use Rattle.guest_rules.specs.Cause.{ShowsDone, ShowsBytes, IsShown}
 use Rattle.guest_rules.proofs.Cases.TurnCases.{Starts}
-use Rattle.guest_rules.proofs.Cases.Commands.{command-in_range}
+use Rattle.cmm_flat.specs.Laws.CommandLaws.{command_in_range}
 use Rattle.guest_rules.proofs.Cases.Reached.{Reaches, load_reaches, store_reaches, entry_page}
 use Rattle.guest_rules.proofs.Kept.WholePages.{written_there}
 
@@ -49,7 +49,7 @@ shows_stored state g v w d e cpu number off bytes slot page found all f starts a
     let pte : Pte = record { page = page; writable = true } in
     let k = store_reaches state g v d cpu number off bytes slot f starts at_slot in
     let has = entry_page state g v d cpu (Store number off bytes) true slot off pte f k at in
-    let piece = (command-in_range g.plan cpu (processor_at g cpu).place (Store number off bytes) f.sizes.range starts.has.command).1 in (
+    let piece = (command_in_range g.plan cpu (processor_at g cpu).place (Store number off bytes) f.sizes.range starts.has.command).1 in (
       page,
       shown_entry state g v d cpu number (Store number off bytes) true slot off pte Done f k at_slot at (λ e. refl),
       record {

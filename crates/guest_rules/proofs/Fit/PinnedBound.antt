@@ -18,13 +18,14 @@ use Rattle.cmm_flat.specs.Legal.{sum_over, pinned_pages, over_live}
 use Rattle.guest_pages.specs.PagesView.{info_at, free_info}
 use Rattle.guest_cache.specs.CacheView.{page_of}
 use Rattle.guest_maps.specs.declared.slot.Slot.{Slot}
-use Rattle.guest_maps.specs.MapsView.{MapsView, slot_at, pinned_at, tag_at, slot_has_page, one_if}
+use Rattle.guest_maps.specs.MapsView.{MapsView, slot_at, pinned_at, tag_at, slot_has_page}
 use Rattle.guest_rules.specs.declared.parts.Parts.{Parts}
 use Rattle.guest_rules.specs.GuestState.{GuestState}
 use Rattle.guest_rules.specs.MakeRoom.{is_pinned, pinned_count}
-use Rattle.cmm_types.specs.Sums.{sum_below}
+use Rattle.cmm_types.specs.Sums.{sum_below, one_if}
+use Rattle.cmm_types.specs.Laws.SumLaws.{sum_below-none}
 use Rattle.guest_rules.specs.Fit.{PagesFit, SlotsFit, PinsFit, TeardownsFit, flat_slot, pins_of, is_tag_of, pin_on, pins_within}
-use Rattle.guest_rules.proofs.Kept.PinLaws.{length-pins_of, pins_of-at, sum_below-same, sum_below-none, is_tag_of-is}
+use Rattle.guest_rules.proofs.Kept.PinLaws.{length-pins_of, pins_of-at, sum_below-same, is_tag_of-is}
 use Rattle.guest_rules.proofs.Kept.Shapes.{shape_some, shape_pins}
 use Rattle.guest_rules.proofs.Kept.FlatTags.{shape_at}
 use Rattle.guest_rules.proofs.Kept.Sums.{sum_below-mono, sum_below-swap, sum_below-single, sum_below-fewer, count_below, one_if-some, at_most, at_most-then}

@@ -23,7 +23,7 @@ use Rattle.guest_rules.specs.declared.parts.Parts.{Parts}
 use Rattle.guest_rules.specs.GuestState.{GuestState, processor_at, entered}
 use Rattle.guest_rules.specs.Fit.{FitAt, Fit, IsFlatTag, own_bytes, flat_page}
 use Rattle.guest_rules.proofs.Cases.TurnCases.{Starts, AllMay, ShowsPage}
-use Rattle.guest_rules.proofs.Cases.Commands.{command-in_range}
+use Rattle.cmm_flat.specs.Laws.CommandLaws.{command_in_range}
 use Rattle.guest_rules.proofs.Cases.Refusals.{page-bytes}
 use Rattle.guest_rules.proofs.Cases.WantedTags.{ShowsAt, shows_at, wanted-shown}
 use Rattle.guest_rules.proofs.Cases.Reached.{Reaches, load_reaches, entry_page}
@@ -100,7 +100,7 @@ Fit-loaded g v d w e cpu number off len slot page writable all f starts found en
     has = entry_page flat g v d cpu (Load number off len) false slot off (record { page = page; writable = writable }) f k entry
 
     piece : IsPiece off len
-    piece = (command-in_range g.plan cpu (processor_at g cpu).place (Load number off len) f.sizes.range starts.has.command).1
+    piece = (command_in_range g.plan cpu (processor_at g cpu).place (Load number off len) f.sizes.range starts.has.command).1
 
     same : take len (drop (off % PAGE) all) ≡ loaded flat.files s.at.its.shown off len
     same =

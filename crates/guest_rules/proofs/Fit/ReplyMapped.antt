@@ -30,7 +30,7 @@ use Rattle.guest_rules.specs.GuestState.{GuestState, processor_at, with_parts, e
 use Rattle.guest_rules.specs.Turns.{file_has_bytes, refusal_of_new}
 use Rattle.guest_rules.specs.Fit.{Fit, without_bytes, flat_shown, own_bytes, current}
 use Rattle.guest_rules.proofs.Cases.TurnCases.{Starts}
-use Rattle.guest_rules.proofs.Cases.Commands.{command-in_range}
+use Rattle.cmm_flat.specs.Laws.CommandLaws.{command_in_range}
 use Rattle.guest_rules.proofs.Kept.SlotsKept.{NewMapping, new_flat, SlotsFit-mapped}
 use Rattle.guest_rules.proofs.Kept.EntriesKept.{EntriesFit-new}
 use Rattle.guest_rules.proofs.Kept.PinsKept.{PinsFit-new}
@@ -104,7 +104,7 @@ Fit-new g v d cpu op slot number count shown flat f k =
 
     sound : IsSound later
     sound = subst IsSound (ap (λ (out : FlatState × Reply). out.0) step)
-        (sound-flat_step state process op (command-in_range g.plan cpu (processor_at g cpu).place op f.sizes.range k.starts.has.command) f.flat.sound)
+        (sound-flat_step state process op (command_in_range g.plan cpu (processor_at g cpu).place op f.sizes.range k.starts.has.command) f.flat.sound)
 
 pub Fit-mapped : (g : GuestState) (v : StorageView) (d : DiskView) (cpu number file first count : ℕ) (writable : Bool) (slot : ℕ) → Fit g v d
     → Starts g cpu (MapFile number file first count writable) → free_slot g.parts.maps ≡ Some slot
@@ -120,7 +120,7 @@ Fit-mapped g v d cpu number file first count writable slot f starts free =
     fresh : NewMapping g.parts slot (process_of g.plan cpu) number (OfFile file first writable) count
     fresh =
         let bytes = has_bytes-file g v d file (PAGE * first) (PAGE * count) f.sizes accepted.1 in
-        let range = command-in_range g.plan cpu (processor_at g cpu).place (MapFile number file first count writable) f.sizes.range starts.has.command in
+        let range = command_in_range g.plan cpu (processor_at g cpu).place (MapFile number file first count writable) f.sizes.range starts.has.command in
         record { free = free; none = accepted.0; some = range.2.some; few = range.2.most; shows = (bytes.file_below, whole_pages first count _ bytes.within) }
 
 -- pages of its own
@@ -137,7 +137,7 @@ Fit-mapped_own g v d cpu number count slot f starts free =
     process = process_of g.plan cpu
 
     range : OpInRange (MapAnon number count)
-    range = command-in_range g.plan cpu (processor_at g cpu).place (MapAnon number count) f.sizes.range starts.has.command
+    range = command_in_range g.plan cpu (processor_at g cpu).place (MapAnon number count) f.sizes.range starts.has.command
 
     fresh : NewMapping g.parts slot process number OfItsOwn count
     fresh =

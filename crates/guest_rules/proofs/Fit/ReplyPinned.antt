@@ -33,7 +33,7 @@ use Rattle.guest_rules.proofs.Kept.EntriesKept.{EntriesFit-pinned}
 use Rattle.guest_rules.proofs.Kept.PinsKept.{PinsFit-pinned}
 use Rattle.guest_rules.proofs.Kept.TeardownsKept.{keeps_torn-pinned}
 use Rattle.guest_rules.proofs.Cases.MapsFound.{found_slot}
-use Rattle.guest_rules.proofs.Cases.Commands.{command-in_range}
+use Rattle.cmm_flat.specs.Laws.CommandLaws.{command_in_range}
 use Rattle.guest_rules.proofs.Kept.FlatTags.{KeepsOwn, FlatMapped, flat_mapped}
 use Rattle.guest_rules.proofs.Fit.FitMay.{infos-pages}
 use Rattle.guest_rules.proofs.Ready.Ready.{has_shows}
@@ -128,7 +128,7 @@ Fit-pinned g v d w e cpu pins number index slot tag page found after f starts wa
 
     sound : IsSound later
     sound = subst IsSound (ap (λ (out : FlatState × Reply). out.0) step)
-        (sound-flat_step flat process op (command-in_range g.plan cpu (processor_at g cpu).place op f.sizes.range starts.has.command) f.flat.sound)
+        (sound-flat_step flat process op (command_in_range g.plan cpu (processor_at g cpu).place op f.sizes.range starts.has.command) f.flat.sound)
 
     own : KeepsOwn flat later
     own p n = elim (cases_eq p process) [

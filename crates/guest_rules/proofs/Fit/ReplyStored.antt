@@ -33,7 +33,7 @@ use Rattle.guest_rules.specs.Hint.{hint, can_be_fetched_again}
 use Rattle.guest_rules.specs.Turns.{refusal_at}
 use Rattle.guest_rules.specs.Fit.{FitAt, Fit, HasShownPages}
 use Rattle.guest_rules.proofs.Cases.TurnCases.{Starts, GivenBack, ShowsPage}
-use Rattle.guest_rules.proofs.Cases.Commands.{command-in_range}
+use Rattle.cmm_flat.specs.Laws.CommandLaws.{command_in_range}
 use Rattle.guest_rules.proofs.Rows.ValueLaws.{hint-tagged}
 use Rattle.guest_rules.proofs.Kept.EntryLaws.{some_writer}
 use Rattle.guest_rules.proofs.Kept.PinLaws.{length-pins_of}
@@ -110,7 +110,7 @@ Fit-stored g v d w e cpu number off bytes slot page found all f starts slot_foun
     has = entry_page flat g v d cpu op true slot off (record { page = page; writable = true }) f k entry
 
     range : OpInRange op
-    range = command-in_range g.plan cpu (processor_at g cpu).place op f.sizes.range starts.has.command
+    range = command_in_range g.plan cpu (processor_at g cpu).place op f.sizes.range starts.has.command
 
     piece : IsPiece off (length bytes)
     piece = range.1

@@ -20,7 +20,7 @@ use Rattle.cmm_types.specs.declared.page.Tag.TheVariants.{File, Anon}
 use Rattle.guest_maps.specs.declared.slot.Slot.{Slot}
 use Rattle.guest_maps.specs.Laws.MapsLaws.{slot_at-torn_slot_same}
 use Rattle.guest_rules.specs.declared.parts.Parts.{Parts}
-use Rattle.guest_rules.proofs.Cases.Commands.{command-in_range}
+use Rattle.cmm_flat.specs.Laws.CommandLaws.{command_in_range}
 use Rattle.guest_rules.proofs.Kept.TagsKept.{tags_stand, TagsStand-maps}
 use Rattle.guest_rules.proofs.Kept.FlatTags.{FlatMapped, flat_mapped, mapped-pages, is_own, never_live, flat_page-at}
 use Rattle.cmm_flat.specs.Legal.{process_of, flat_of, flat_after, pages_ended}
@@ -159,7 +159,7 @@ Fit-unmapped g v d cpu number slot f starts found =
 
     sound : IsSound later
     sound = subst IsSound (ap (λ (out : FlatState × Reply). out.0) step)
-        (sound-flat_step flat process op (command-in_range g.plan cpu (processor_at g cpu).place op f.sizes.range starts.has.command) f.flat.sound)
+        (sound-flat_step flat process op (command_in_range g.plan cpu (processor_at g cpu).place op f.sizes.range starts.has.command) f.flat.sound)
 
     -- the flat machine has no page of it any more
     flat_fits : FlatFit later (with_others g now (g.journal ++ entry_of g cpu op Done ∷ []) (set g.processors cpu processor)) v d

@@ -8,6 +8,7 @@ use Rattle.cmm_types.specs.declared.page.Tag.TheVariants.{Anon}
 use Rattle.cmm_types.specs.declared.command.Op.{Op}
 use Rattle.cmm_types.specs.declared.command.Op.TheVariants.{Load, Store}
 use Rattle.cmm_types.specs.declared.command.FlatRefusal.TheVariants.{OutOfRange, ReadOnly}
+use Rattle.cmm_types.specs.Sums.{one_if}
 use Rattle.cmm_io.specs.DiskView.{DiskView}
 use Rattle.cmm_flat.specs.State.{FlatState}
 use Rattle.cmm_flat.specs.Legal.{process_of}
@@ -17,7 +18,7 @@ use Rattle.guest_pages.specs.declared.info.PageInfo.{PageInfo}
 use Rattle.guest_pages.specs.PagesView.{info_at}
 use Rattle.guest_cache.specs.CacheView.{CacheView}
 use Rattle.guest_maps.specs.declared.slot.Slot.{Slot}
-use Rattle.guest_maps.specs.MapsView.{MapsView, slot_at, find_slot, entry_at, tag_at, is_mapping, with_entry, one_if}
+use Rattle.guest_maps.specs.MapsView.{MapsView, slot_at, find_slot, entry_at, tag_at, is_mapping, with_entry}
 use Rattle.guest_maps.specs.Laws.MapsLaws.{slots-with_entry, pinned-with_entry, pages-with_entry}
 use Rattle.guest_rules.specs.declared.parts.Parts.{Parts}
 use Rattle.guest_rules.specs.GuestState.{GuestState, with_parts}

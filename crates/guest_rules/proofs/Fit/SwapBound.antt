@@ -24,19 +24,20 @@ use Rattle.guest_maps.specs.FirstPlace.{none_within}
 use Rattle.guest_maps.specs.declared.slot.Slot.{Slot}
 use Rattle.guest_maps.specs.declared.slot.Shown.{Shown}
 use Rattle.guest_maps.specs.declared.slot.Shown.TheVariants.{File as OfFile, Anon as OfItsOwn}
-use Rattle.guest_maps.specs.MapsView.{MapsView, slot_at, one_if}
+use Rattle.guest_maps.specs.MapsView.{MapsView, slot_at}
 use Rattle.guest_rules.specs.declared.parts.Parts.{Parts}
 use Rattle.guest_rules.specs.GuestState.{GuestState, processor_at}
 use Rattle.guest_rules.specs.MakeRoom.{is_pinned, pinned_count}
 use Rattle.guest_rules.specs.Stuck.{IsStuck, IsUnslotted}
-use Rattle.cmm_types.specs.Sums.{sum_below}
+use Rattle.cmm_types.specs.Sums.{sum_below, one_if}
+use Rattle.cmm_types.specs.Laws.SumLaws.{sum_below-add}
 use Rattle.guest_rules.specs.Fit.{SlotsFit, Fit, IsOwnPage, IsUsedTag, own_pages}
 use Rattle.guest_rules.proofs.Cases.Reached.{tears_slot, tears_slot-is, one_slot}
 use Rattle.guest_rules.proofs.Kept.PinLaws.{sum_below-at, sum_below-same}
 use Rattle.guest_rules.proofs.Kept.SlotsKept.{slot-below}
 use Rattle.guest_rules.proofs.Kept.SwapLaws.{swap_tag, holds-is, swap_slot-nowhere}
 use Rattle.guest_rules.proofs.Kept.FlatTags.{finds, flat_mapped, mapped-pages}
-use Rattle.guest_rules.proofs.Kept.Sums.{sum_below-mono, sum_below-add, sum_below-swap, sum_below-single, count_below, sum_below-list, some_below, at_most, at_most-then}
+use Rattle.guest_rules.proofs.Kept.Sums.{sum_below-mono, sum_below-swap, sum_below-single, count_below, sum_below-list, some_below, at_most, at_most-then}
 use Rattle.guest_rules.proofs.Fit.FitEntered.{walk_at}
 use Rattle.guest_rules.proofs.Fit.PinnedBound.{key_of, sum_within, pinned_places, pinned_rows}
 

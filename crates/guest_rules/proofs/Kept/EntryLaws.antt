@@ -5,9 +5,10 @@ use Rattle.std.proofs.lemmas.Bool.{eqb-true, eqb-false, false_from_ne_true}
 use Rattle.std.proofs.lemmas.Bool.Decides.{nat_tests}
 use Rattle.std.proofs.lemmas.List.{length-map}
 use Rattle.cmm_types.specs.declared.page.Tag.{Tag}
+use Rattle.cmm_types.specs.Sums.{one_if}
 use Rattle.guest_maps.specs.declared.slot.Pte.{Pte}
 use Rattle.guest_maps.specs.declared.slot.Slot.{Slot}
-use Rattle.guest_maps.specs.MapsView.{MapsView, slot_at, place_at, entry_at, slot_has_page, tag_of, tag_in, tag_at, IsPlace, shows, stores_to, writers_showing, unless_shows, one_if as one_where, with_entry, without_entries_of, one_if}
+use Rattle.guest_maps.specs.MapsView.{MapsView, slot_at, place_at, entry_at, slot_has_page, tag_of, tag_in, tag_at, IsPlace, shows, stores_to, writers_showing, unless_shows, with_entry, without_entries_of}
 use Rattle.guest_maps.specs.Laws.MapsLaws.{entry_at-without_entries_of}
 use Rattle.guest_maps.specs.EntryCounts.{count_by-set, count_by-positive}
 use Rattle.guest_rules.proofs.Cases.TurnCases.{CanBeSet}
@@ -65,8 +66,8 @@ old_stores : (writes : Bool) (i : ℕ) (o : Option Pte) → CanBeSet o writes �
 old_stores writes i None can = refl
 old_stores writes i (Some pte) can = ap (λ b. b && (pte.page == i)) can.1
 
-stores_here : (page : ℕ) (writes : Bool) → one_where (stores_to page (Some (record { page = page; writable = writes }))) ≡ one_if writes
-stores_here page true = ap one_where (same_number page)
+stores_here : (page : ℕ) (writes : Bool) → one_if (stores_to page (Some (record { page = page; writable = writes }))) ≡ one_if writes
+stores_here page true = ap one_if (same_number page)
 stores_here page false = refl
 
 stores_elsewhere : (page i : ℕ) (writes : Bool) → i ≢ page → stores_to i (Some (record { page = page; writable = writes })) ≡ false
@@ -80,7 +81,7 @@ module _ (maps : MapsView) (slot index : ℕ) where
   unfolding with_entry
   writers-with_entry_same page writes below can =
       let moved = count_by-set (stores_to page) maps.entries (place_at slot index) (Some (record { page = page; writable = writes })) below in
-      let old : one_where (stores_to page (entry_at maps slot index)) ≡ 0 = ap one_where (old_stores writes page (entry_at maps slot index) can) in
+      let old : one_if (stores_to page (entry_at maps slot index)) ≡ 0 = ap one_if (old_stores writes page (entry_at maps slot index) can) in
       omega (arith, moved, old, stores_here page writes)
 
   pub writers-with_entry_other : (page i : ℕ) (writes : Bool) → place_at slot index < length maps.entries → CanBeSet (entry_at maps slot index) writes → i ≢ page
@@ -88,8 +89,8 @@ module _ (maps : MapsView) (slot index : ℕ) where
   unfolding with_entry
   writers-with_entry_other page i writes below can n =
       let moved = count_by-set (stores_to i) maps.entries (place_at slot index) (Some (record { page = page; writable = writes })) below in
-      let old : one_where (stores_to i (entry_at maps slot index)) ≡ 0 = ap one_where (old_stores writes i (entry_at maps slot index) can) in
-      let new : one_where (stores_to i (Some (record { page = page; writable = writes }))) ≡ 0 = ap one_where (stores_elsewhere page i writes n) in
+      let old : one_if (stores_to i (entry_at maps slot index)) ≡ 0 = ap one_if (old_stores writes i (entry_at maps slot index) can) in
+      let new : one_if (stores_to i (Some (record { page = page; writable = writes }))) ≡ 0 = ap one_if (stores_elsewhere page i writes n) in
       omega (arith, moved, old, new)
 
   -- a page that an entry allows stores to has a writer
@@ -104,7 +105,7 @@ module _ (maps : MapsView) (slot index : ℕ) where
   unfolding with_entry
   writers-cleared_same pte below e =
       let moved = count_by-set (stores_to pte.page) maps.entries (place_at slot index) None below in
-      let old : one_where (stores_to pte.page (entry_at maps slot index)) ≡ one_if pte.writable = ap (λ o. one_where (stores_to pte.page o)) e ∙ stores_here pte.page pte.writable in
+      let old : one_if (stores_to pte.page (entry_at maps slot index)) ≡ one_if pte.writable = ap (λ o. one_if (stores_to pte.page o)) e ∙ stores_here pte.page pte.writable in
       omega (arith, moved, old)
 
   pub writers-cleared_other : (i : ℕ) (pte : Pte) → place_at slot index < length maps.entries → entry_at maps slot index ≡ Some pte → i ≢ pte.page
@@ -112,5 +113,5 @@ module _ (maps : MapsView) (slot index : ℕ) where
   unfolding with_entry
   writers-cleared_other i pte below e n =
       let moved = count_by-set (stores_to i) maps.entries (place_at slot index) None below in
-      let old : one_where (stores_to i (entry_at maps slot index)) ≡ 0 = ap (λ o. one_where (stores_to i o)) e ∙ ap one_where (stores_elsewhere pte.page i pte.writable n) in
+      let old : one_if (stores_to i (entry_at maps slot index)) ≡ 0 = ap (λ o. one_if (stores_to i o)) e ∙ ap one_if (stores_elsewhere pte.page i pte.writable n) in
       omega (arith, moved, old)

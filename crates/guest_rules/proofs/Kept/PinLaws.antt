@@ -8,9 +8,10 @@ use Rattle.std.proofs.lemmas.List.FromFn.{length-map-range_with_len, get_or-map-
 use Rattle.cmm_types.specs.declared.command.TheConstants.{MAX_MAPPING_PAGES}
 use Rattle.cmm_types.specs.declared.page.Tag.{Tag}
 use Rattle.cmm_types.specs.declared.page.Tag.TheVariants.{File, Anon}
-use Rattle.guest_maps.specs.MapsView.{MapsView, place_at, pinned_at, tag_at, one_if, with_pinned}
+use Rattle.guest_maps.specs.MapsView.{MapsView, place_at, pinned_at, tag_at, with_pinned}
 use Rattle.guest_maps.specs.Laws.MapsLaws.{entry_place_exact, pinned_at-with_pinned_other}
-use Rattle.cmm_types.specs.Sums.{sum_below}
+use Rattle.cmm_types.specs.Sums.{sum_below, one_if}
+use Rattle.cmm_types.specs.Laws.SumLaws.{sum_below-none}
 use Rattle.guest_rules.specs.Fit.{pins_of, same_tag, is_tag_of, pin_on, pins_within}
 
 -- ---- the pins of a mapping as a list
@@ -87,10 +88,6 @@ sum_below-one f g at (suc count) a b below others here = elim (cases_eq at count
       omega (arith, sum_below-same f g count (λ i h. others i (omega arith) (λ y. absurd (omega arith))), last)
   | inr n ↦ omega (arith, sum_below-one f g at count a b (omega arith) (λ i h m. others i (omega arith) m) here, others count (omega arith) (λ y. n (sym y)))
 ]
-
-pub sum_below-none : (f : ℕ → ℕ) (count : ℕ) → ((i : ℕ) → i < count → f i ≡ 0) → sum_below f count ≡ 0
-sum_below-none f zero each = refl
-sum_below-none f (suc count) each = omega (arith, sum_below-none f count (λ i h. each i (omega arith)), each count (omega arith))
 
 pub sum_below-at : (f : ℕ → ℕ) (at count : ℕ) → at < count → f at ≤ sum_below f count
 sum_below-at f at zero below = absurd (omega arith)

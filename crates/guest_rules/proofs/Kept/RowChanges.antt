@@ -1,12 +1,13 @@
 -- What each change of the tables leaves: a page begun, handled after a discard, freed after a failure, filled, found changed, shown by an entry or not any more, pinned or unpinned.
 use Rattle.std.proofs.Common.{◌≡◌, ◌<◌, ◌-◌, ℕ, Bool, true, false, ◌∷◌, drop, length, Some, None, refl, ap, ◌∙◌}
 use Rattle.cmm_types.specs.declared.page.Tag.{Tag}
+use Rattle.cmm_types.specs.Sums.{one_if}
 use Rattle.guest_pages.specs.declared.info.PageInfo.{PageInfo}
 use Rattle.guest_pages.specs.PagesView.{PagesView, info_at, free_info, with_info, with_owner, with_uptodate, with_dirty, with_pins, with_writers, popped, pushed}
 use Rattle.guest_cache.specs.CacheView.{without_page}
 use Rattle.guest_rules.specs.declared.parts.Parts.{Parts}
 use Rattle.guest_maps.specs.declared.slot.Pte.{Pte}
-use Rattle.guest_maps.specs.MapsView.{with_entry, without_entries_of, with_pinned, one_if}
+use Rattle.guest_maps.specs.MapsView.{with_entry, without_entries_of, with_pinned}
 use Rattle.guest_rules.specs.Rows.{freed, handled, filled, with_change, shown_info, mapped, unmapped, pinned, pins_after}
 use Rattle.guest_rules.specs.Turns.{begun}
 use Rattle.guest_rules.proofs.Kept.Changes.{InfoChange, change-with_info, InfoChange-trans}

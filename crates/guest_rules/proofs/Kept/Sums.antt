@@ -5,17 +5,12 @@ use Rattle.std.proofs.lemmas.Bool.{cases_eq}
 use Rattle.std.proofs.lemmas.Bool.Decides.{nat_tests}
 use Rattle.std.specs.List.{sum_by}
 use Rattle.std.proofs.lemmas.List.Sums.{sum_by-cons}
-use Rattle.guest_maps.specs.MapsView.{one_if}
-use Rattle.cmm_types.specs.Sums.{sum_below}
-use Rattle.guest_rules.proofs.Kept.PinLaws.{sum_below-none}
+use Rattle.cmm_types.specs.Sums.{sum_below, one_if}
+use Rattle.cmm_types.specs.Laws.SumLaws.{sum_below-none, sum_below-add}
 
 pub sum_below-mono : (f g : ℕ → ℕ) (count : ℕ) → ((i : ℕ) → i < count → f i ≤ g i) → sum_below f count ≤ sum_below g count
 sum_below-mono f g zero each = omega arith
 sum_below-mono f g (suc count) each = omega (arith, sum_below-mono f g count (λ i h. each i (omega arith)), each count (omega arith))
-
-pub sum_below-add : (f g : ℕ → ℕ) (count : ℕ) → sum_below (λ i. f i + g i) count ≡ sum_below f count + sum_below g count
-sum_below-add f g zero = refl
-sum_below-add f g (suc count) = omega (arith, sum_below-add f g count)
 
 -- by rows as by columns
 pub sum_below-swap : (f : ℕ → ℕ → ℕ) (rows columns : ℕ) → sum_below (λ i. sum_below (f i) columns) rows ≡ sum_below (λ j. sum_below (λ i. f i j) rows) columns

@@ -1,7 +1,7 @@
 -- What fit gives the calls of the code of a turn: what each of them needs of its numbers.
-use Rattle.std.specs.Prelude.{◌≡◌, ◌<◌, ◌≤◌, ℕ, Bool, true, false, ◌+◌, ◌*◌, ◌/◌, zero, suc, List, [], ◌∷◌, length, sum, sum_by, get_or, All, Contains, Option, None, Some, IfSome, IsSome, refl}
+use Rattle.std.specs.Prelude.{◌≡◌, ◌<◌, ◌≤◌, ℕ, Bool, true, false, ◌+◌, ◌*◌, ◌/◌, zero, suc, List, [], ◌∷◌, length, sum, sum_by, get_or, Contains, Option, None, Some, IfSome, IsSome, refl}
 use Rattle.std.proofs.Common.{arith, ap, sym, ◌∙◌}
-use Rattle.std.proofs.lemmas.List.Sums.{sum-map, sum_by-cons, sum_by-le, count_by-le-length}
+use Rattle.std.proofs.lemmas.List.Sums.{sum-map, sum_by-cons, count_by-le-length}
 use Rattle.cmm_types.specs.declared.page.TheConstants.{PAGE}
 use Rattle.cmm_types.specs.declared.page.Usage.TheVariants.{S}
 use Rattle.cmm_types.specs.declared.page.Tag.{Tag}
@@ -30,7 +30,8 @@ use Rattle.guest_rules.specs.Rows.{backing_at}
 use Rattle.guest_rules.specs.Calls.{CanClear, CanMakeRoom, CanWriteBack}
 use Rattle.guest_rules.specs.Fit.{SizesFit, Fit, command_count, all_commands, answered_early, entries_of, IsSyncing, IsTearing}
 use Rattle.guest_rules.proofs.Cases.TurnCases.{Has, Starts, HasItsTag, pin_op}
-use Rattle.guest_rules.proofs.Cases.Commands.{command-below, command_count-le, command-in_range, process_of-below}
+use Rattle.cmm_flat.specs.Laws.CommandLaws.{command_in_range}
+use Rattle.guest_rules.proofs.Cases.Commands.{command-below, command_count-le, process_of-below}
 use Rattle.guest_rules.proofs.Kept.PageFits.{tagged-below}
 use Rattle.guest_rules.proofs.Kept.EntryLaws.{place-tagged, some_writer}
 use Rattle.guest_rules.proofs.Kept.PinLaws.{pins_within-some, pins_within-most}
@@ -124,18 +125,18 @@ module _ (g : GuestState) (v : StorageView) (d : DiskView) where
 
   -- a read, a load or a store is of at most so many bytes, all in one page
   pub read-piece : (cpu file off len : ℕ) → Fit g v d → Has g cpu (Read file off len) → IsPiece off len
-  read-piece cpu file off len f has = (command-in_range g.plan cpu (processor_at g cpu).place (Read file off len) f.sizes.range has.command).1
+  read-piece cpu file off len f has = (command_in_range g.plan cpu (processor_at g cpu).place (Read file off len) f.sizes.range has.command).1
 
   pub load-piece : (cpu number off len : ℕ) → Fit g v d → Has g cpu (Load number off len) → (number < MAX_MAPPING_NUMBERS) × IsPiece off len
-  load-piece cpu number off len f has = command-in_range g.plan cpu (processor_at g cpu).place (Load number off len) f.sizes.range has.command
+  load-piece cpu number off len f has = command_in_range g.plan cpu (processor_at g cpu).place (Load number off len) f.sizes.range has.command
 
   pub store-piece : (cpu number off : ℕ) (bytes : List ℕ) → Fit g v d → Has g cpu (Store number off bytes) → (number < MAX_MAPPING_NUMBERS) × IsPiece off (length bytes)
-  store-piece cpu number off bytes f has = command-in_range g.plan cpu (processor_at g cpu).place (Store number off bytes) f.sizes.range has.command
+  store-piece cpu number off bytes f has = command_in_range g.plan cpu (processor_at g cpu).place (Store number off bytes) f.sizes.range has.command
 
   -- a new mapping is of pages that a mapping may have
   pub map-pages : (cpu number file first count : ℕ) (writable : Bool) → Fit g v d → Has g cpu (MapFile number file first count writable) → (number < MAX_MAPPING_NUMBERS) × ArePages first count
   map-pages cpu number file first count writable f has =
-      let range = command-in_range g.plan cpu (processor_at g cpu).place (MapFile number file first count writable) f.sizes.range has.command in
+      let range = command_in_range g.plan cpu (processor_at g cpu).place (MapFile number file first count writable) f.sizes.range has.command in
       (range.0, range.2)
 
   -- where it isn't refused, a slot is free
@@ -196,7 +197,7 @@ module _ (g : GuestState) (v : StorageView) (d : DiskView) where
   -- ---- unmaps
 
   pub unmap-number : (cpu number : ℕ) → Fit g v d → Has g cpu (Unmap number) → number < MAX_MAPPING_NUMBERS
-  unmap-number cpu number f has = command-in_range g.plan cpu (processor_at g cpu).place (Unmap number) f.sizes.range has.command
+  unmap-number cpu number f has = command_in_range g.plan cpu (processor_at g cpu).place (Unmap number) f.sizes.range has.command
 
 -- the mapping that an unmap finds is live
 pub unmap-live : (g : GuestState) (cpu number slot : ℕ) → find_slot g.parts.maps (process_of g.plan cpu) number ≡ Some slot → is_live_slot (slot_at g.parts.maps slot) ≡ true
@@ -230,8 +231,8 @@ module _ (g : GuestState) (v : StorageView) (d : DiskView) where
 
   -- the numbers of a pin or an unpin
   pub pin-piece : (cpu : ℕ) (pins : Bool) (number index : ℕ) → Fit g v d → Has g cpu (pin_op pins number index) → (number < MAX_MAPPING_NUMBERS) × (index < MAX_MAPPING_PAGES)
-  pin-piece cpu true number index f has = command-in_range g.plan cpu (processor_at g cpu).place (Pin number index) f.sizes.range has.command
-  pin-piece cpu false number index f has = command-in_range g.plan cpu (processor_at g cpu).place (Unpin number index) f.sizes.range has.command
+  pin-piece cpu true number index f has = command_in_range g.plan cpu (processor_at g cpu).place (Pin number index) f.sizes.range has.command
+  pin-piece cpu false number index f has = command_in_range g.plan cpu (processor_at g cpu).place (Unpin number index) f.sizes.range has.command
 
   -- a page has at most as many pins as there are places
   pub pins-most : (page : ℕ) → Fit g v d → (info_at g.parts.pages page).pins ≤ MAX_MAPPING_SLOTS * MAX_MAPPING_PAGES
@@ -302,12 +303,6 @@ pub journal-room : (g : GuestState) (v : StorageView) (d : DiskView) (cpu : ℕ)
 journal-room g v d cpu op f below command early =
     let left = one_left (processor_at g cpu).place (answered_early (processor_at g cpu).phase) (command_count g.plan cpu) early (command-below g.plan cpu (processor_at g cpu).place op command) in
     omega (arith, entries-lt g.plan cpu g.processors g.plan.cpus f.sizes.processors f.journal.within below left, f.journal.counted)
-
--- 8 processors of at most 10,000 commands
-pub all_commands-bound : (plan : GuestPlan) → GuestInRange plan → all_commands plan ≤ 80000
-all_commands-bound plan range =
-    let each : All (λ cpu. length cpu.commands ≤ MAX_COMMANDS) plan.cpus = λ k d h. (range.cpus.each k d h).few in
-    omega (arith, sum_by-le (λ (cpu : CpuPlan). length cpu.commands) MAX_COMMANDS plan.cpus each, range.cpus.few)
 
 -- ---- room
 

@@ -4,6 +4,7 @@ use Rattle.std.proofs.Common.{sym, ap, subst, inl, inr, ◌∙◌, ⊎_elim}
 use Rattle.cmm_types.specs.declared.page.Usage.TheVariants.{S, V}
 use Rattle.cmm_types.specs.declared.page.Tag.TheVariants.{Anon}
 use Rattle.cmm_types.specs.declared.command.Cause.TheVariants.{Disk, Paging, NoPage}
+use Rattle.cmm_types.specs.Sums.{one_if}
 use Rattle.cmm_io.specs.DiskView.{DiskView}
 use Rattle.essa_state.specs.PageValue.{PageValue, IsMadeUnused}
 use Rattle.cmm_storage.specs.StorageView.{StorageView, Follows}
@@ -15,7 +16,7 @@ use Rattle.guest_pages.specs.PagesView.{info_at, with_pins}
 use Rattle.guest_pages.specs.Laws.PagesLaws.{info_at-with_info_same, length-with_info}
 use Rattle.guest_cache.specs.CacheView.{page_of, swap_slot, unassigned, backing_of}
 use Rattle.guest_maps.specs.declared.slot.Pte.{Pte}
-use Rattle.guest_maps.specs.MapsView.{entries_showing, with_entry, with_pinned, one_if}
+use Rattle.guest_maps.specs.MapsView.{entries_showing, with_entry, with_pinned}
 use Rattle.guest_maps.specs.Laws.MapsLaws.{entries_showing-without_same}
 use Rattle.guest_rules.specs.declared.parts.Parts.{Parts}
 use Rattle.guest_rules.specs.declared.outcome.Gone.{Gone}

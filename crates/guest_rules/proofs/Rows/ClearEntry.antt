@@ -3,6 +3,7 @@ use Rattle.std.specs.Prelude.{◌≡◌, ◌<◌, ℕ, ◌-◌, length, Result, 
 use Rattle.std.proofs.Common.{ap, subst, ◌∙◌}
 use Rattle.cmm_types.specs.declared.page.Tag.{Tag}
 use Rattle.cmm_types.specs.declared.turn.Why.TheVariants.{Busy as WasBusy}
+use Rattle.cmm_types.specs.Sums.{one_if}
 use Rattle.cmm_io.specs.DiskView.{DiskView}
 use Rattle.essa_state.specs.PageValue.{PageValue}
 use Rattle.cmm_storage.specs.StorageView.{StorageView, Misses}
@@ -10,7 +11,6 @@ use Rattle.cmm_storage.specs.Views.{Seen, unbind}
 use Rattle.guest_pages.specs.PagesView.{info_at, with_writers}
 use Rattle.guest_pages.specs.Laws.PagesLaws.{info_at-with_info_same, length-with_info}
 use Rattle.guest_maps.specs.declared.slot.Pte.{Pte}
-use Rattle.guest_maps.specs.MapsView.{one_if}
 use Rattle.guest_rules.specs.declared.parts.Parts.{Parts}
 use Rattle.guest_rules.specs.declared.outcome.Gone.{Gone}
 use Rattle.guest_rules.specs.declared.outcome.Placed.{Placed}

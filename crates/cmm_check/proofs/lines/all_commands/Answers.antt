@@ -1,7 +1,7 @@
 use Rattle.std.proofs.Common.{◌≡◌, ◌<◌, length, get_or, ap, ◌∙◌, subst, arith}
 use Rattle.std.proofs.lemmas.List.Sums.{sum_by_more_le}
 use Rattle.cmm_types.specs.declared.plan.CpuPlan.{CpuPlan}
-use Rattle.cmm_check.proofs.Plans.{commands_bound}
+use Rattle.cmm_flat.specs.Laws.CommandLaws.{all_commands-bound}
 use Rattle.cmm_check.proofs.lines.all_commands.Goals as goal
 
 pub overflow_add-count : goal.overflow_add-count
@@ -18,5 +18,5 @@ overflow_add-count c =
       c.loop-cpu.invariant.1,
       number,
       sum_by_more_le (λ (cpu : CpuPlan). length cpu.commands) c.args.plan.now.cpus c.loop-cpu.cpu-index c.cpu-item.result below,
-      commands_bound c.args.plan.now c.requires,
+      all_commands-bound c.args.plan.now c.requires,
     )

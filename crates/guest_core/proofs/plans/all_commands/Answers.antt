@@ -1,7 +1,7 @@
 use Rattle.std.proofs.Common.{◌≡◌, ◌<◌, length, get_or, ap, ◌∙◌, subst, arith}
 use Rattle.std.proofs.lemmas.List.Sums.{sum_by_more_le}
 use Rattle.cmm_types.specs.declared.plan.CpuPlan.{CpuPlan}
-use Rattle.guest_rules.proofs.Ready.ReadyCalls.{all_commands-bound}
+use Rattle.cmm_flat.specs.Laws.CommandLaws.{all_commands-bound}
 use Rattle.guest_core.proofs.plans.all_commands.Goals as goal
 
 pub overflow_add-count : goal.overflow_add-count

@@ -1,6 +1,6 @@
 use Rattle.std.proofs.Common.{sym, ◌∙◌}
 use Rattle.guest_rules.specs.GuestState.{processor_at}
-use Rattle.guest_rules.proofs.Cases.Commands.{command-in_range}
+use Rattle.cmm_flat.specs.Laws.CommandLaws.{command_in_range}
 use Rattle.guest_rules.proofs.Ready.ReadyCalls.{process-below}
 use Rattle.guest_core.proofs.guest.Guest.start_turn.Goals as goal
 
@@ -10,7 +10,7 @@ refusal_on-requires-clause-process g c =
 
 pub refusal_on-requires-clause-range : goal.refusal_on-requires-clause-range
 refusal_on-requires-clause-range g c =
-    command-in_range c.args.self.now.plan c.args.cpu (processor_at c.args.self.now c.args.cpu).place c.args.op.now c.requires.fit.1.sizes.range c.requires.command
+    command_in_range c.args.self.now.plan c.args.cpu (processor_at c.args.self.now c.args.cpu).place c.args.op.now c.requires.fit.1.sizes.range c.requires.command
 
 pub start_accepted-requires-clause-starts : goal.start_accepted-requires-clause-starts
 start_accepted-requires-clause-starts g c =
