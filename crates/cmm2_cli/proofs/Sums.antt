@@ -1,12 +1,12 @@
 -- The sums over a world's guests, and that none is too large.
 use Rattle.std.specs.Prelude.{◌≡◌, ◌<◌, ◌≤◌, ℕ, ◌+◌, ◌*◌, ◌^◌, List, map, length, slice_index_or}
 use Rattle.std.specs.List.{range_with_len}
-use Rattle.std.proofs.Common.{refl, sym, ap, subst, arith, ◌∙◌}
+use Rattle.std.proofs.Common.{sym, ap, subst, arith, ◌∙◌}
 use Rattle.std.proofs.lemmas.List.{length-map, get_or-map}
 use Rattle.std.proofs.lemmas.List.FromFn.{sum_by-map-range_with_len_more}
 use Rattle.cmm_types.specs.declared.plan.GuestPlan.{GuestPlan}
 use Rattle.cmm_types.specs.declared.plan.Scenario.{Scenario}
-use Rattle.cmm_types.specs.declared.plan.TheConstants.{MAX_GUESTS, MAX_GUEST_PAGES}
+use Rattle.cmm_types.specs.declared.plan.TheConstants.{MAX_GUEST_PAGES}
 use Rattle.cmm_types.specs.InRange.{ScenarioInRange, GuestInRange}
 use Rattle.cmm_flat.specs.Laws.CountLaws.{legal-most}
 use Rattle.cmm_report.specs.Report.{GuestReport}
@@ -38,11 +38,6 @@ pub record IsFew (w : WorldState) (guest : ℕ) : Type 0 where
   pub entries : length (guest_at w guest).journal ≤ 80000
   pub faults : (guest_at w guest).parts.faults ≤ discards_of w guest
 
-pub few_guests : (plan : Scenario) (v : WorldView) → ScenarioInRange plan → HasPlayed plan v → length v.state.guests ≤ MAX_GUESTS
-few_guests plan v range has =
-    let plans : plans_of v.state ≡ plan.guests = ap plans_of has.state ∙ has.legal.plans in
-    omega (arith, length-map v.state.guests (λ (g : GuestState). g.plan), ap (λ (ps : List GuestPlan). length ps) plans, range.guests.few)
-
 pub few : (plan : Scenario) (v : WorldView) (guest : ℕ) → ScenarioInRange plan → HasPlayed plan v → guest < length v.state.guests → IsFew v.state guest
 few plan v guest range has below =
     let w = v.state in
@@ -55,9 +50,6 @@ few plan v guest range has below =
       entries = omega (arith, legal-most (guest_at w guest).plan (guest_at w guest).journal (has.fit guest below).journal.legal, all_commands-bound (guest_at w guest).plan its);
       faults = faults_few w guest has.fit below;
     }
-
-pub sums_none : (w : WorldState) → AreSums w 0 0 0 0
-sums_none w = record { entries_are = refl; discards_are = refl; faults_are = refl; few_entries = omega arith; few_discards = omega arith; few_faults = omega arith }
 
 pub sums_next : (w : WorldState) (guest entries discards faults : ℕ) → AreSums w guest entries discards faults → IsFew w guest → discards_of w guest ≤ MAX_GUEST_PAGES * 2 ^ 32
     → AreSums w (guest + 1) (entries + length (guest_at w guest).journal) (discards + discards_of w guest) (faults + (guest_at w guest).parts.faults)

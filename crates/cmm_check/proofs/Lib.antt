@@ -2,7 +2,6 @@ pub mod Digits
 pub mod ReadingLaws
 pub mod EntryLaws
 pub mod AnswerLaws
-pub mod Walks
 pub mod Plans
 pub mod Distinct
 pub mod OneMore

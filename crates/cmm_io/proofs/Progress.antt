@@ -2,7 +2,7 @@
 use Rattle.std.proofs.Common.{◌≡◌, ◌∙◌, ℕ, ◌+◌, ◌^◌, ◌<◌, ◌≤◌, List, [], ◌++◌, length, take, drop, Option, Some, None, refl, sym, ap, append_assoc, subst, arith}
 use Rattle.std.specs.Io.KnownBytes.{Consumes}
 use Rattle.std.proofs.Math.Seq.{take-append_seam}
-use Rattle.std.proofs.lemmas.List.{length-take-le, length-drop, drop-drop, take-append-drop, drop-take, take-take, append-nil, length-append}
+use Rattle.std.proofs.lemmas.List.{length-take-le, length-drop, drop-drop, take-append-drop, drop-take, take-take, length-append}
 use Rattle.cmm_io.specs.SourceBytes.{given_after, HasTaken, IsLonger}
 
 Consumes-nothing : (known : Option (List ℕ)) → Consumes known known []
@@ -33,11 +33,6 @@ module _ {S : Type 0} (rest : S → Option (List ℕ)) (given : S → ℕ) where
         second.counted ∙ ap (λ n. given_after n (length b)) first.counted ∙ given_then (given old) (length a) (length b)
         ∙ ap (given_after (given old)) (sym (length-append a b));
   }
-
-  -- a call that took nothing more
-  pub HasTaken-same : (old middle new : S) (bytes more : List ℕ) → HasTaken rest given old middle bytes → HasTaken rest given middle new more → more ≡ [] → HasTaken rest given old new bytes
-  HasTaken-same old middle new bytes more first second none =
-      subst (HasTaken rest given old new) (ap (λ l. bytes ++ l) none ∙ append-nil bytes) (HasTaken-then old middle new bytes more first second)
 
 pub longer : (old new : Option (List ℕ)) (bytes : List ℕ) (limit : ℕ) → Consumes old new bytes → limit < length bytes → IsLonger old limit
 longer None new bytes limit lost more = tt

@@ -152,9 +152,6 @@ has id words = first_of id (matches_of parser words)
 abbrev has_in : Text → Walk → Option Text
 has_in id w = first_of id (finished rules w.held)
 
-has_is : (id : Text) (words : List Text) → has id words ≡ has_in id (walk rules [] nothing_held words)
-has_is id words = refl
-
 abbrev text_there : Option Text → List Text
 text_there None = []
 text_there (Some word) = word ∷ []

@@ -93,13 +93,6 @@ shows-gone page entry =
     (λ is. ap (shows page) (unless_shows-other page entry is) ∙ is)
     (cases_Bool (shows page entry))
 
-shows-stays : (page other : ℕ) (entry : Option Pte) → other ≢ page → shows other (unless_shows page entry) ≡ shows other entry
-shows-stays page other entry apart =
-    ⊎_elim
-    (λ is. ap (shows other) (unless_shows-own page entry is) ∙ sym (false_from_ne_true _ (λ is_other. apart (shows_exact other page entry is_other is))))
-    (λ is. ap (shows other) (unless_shows-other page entry is))
-    (cases_Bool (shows page entry))
-
 stores-stays : (page other : ℕ) (entry : Option Pte) → other ≢ page → stores_to other (unless_shows page entry) ≡ stores_to other entry
 stores-stays page other entry apart =
     ⊎_elim
@@ -109,9 +102,6 @@ stores-stays page other entry apart =
 
 pub showing-gone : (page : ℕ) (entries : List (Option Pte)) → count_by (shows page) (map (unless_shows page) entries) ≡ 0
 showing-gone page entries = count_by-map (shows page) (λ _. false) (unless_shows page) entries (shows-gone page) ∙ count_by-never entries
-
-pub showing-stays : (page other : ℕ) (entries : List (Option Pte)) → other ≢ page → count_by (shows other) (map (unless_shows page) entries) ≡ count_by (shows other) entries
-showing-stays page other entries apart = count_by-map (shows other) (shows other) (unless_shows page) entries (λ x. shows-stays page other x apart)
 
 pub writers-gone : (page : ℕ) (entries : List (Option Pte)) → count_by (stores_to page) (map (unless_shows page) entries) ≡ 0
 writers-gone page entries = count_by-map (stores_to page) (λ _. false) (unless_shows page) entries (λ x. stores-not_shown page (unless_shows page x) (shows-gone page x)) ∙ count_by-never entries

@@ -335,23 +335,3 @@ touched_page-falls m page pager = at (is_discarded (word_at m page)) (is_residen
     at true r = falls-none pager
     at false true = falls-none pager
     at false false = used (filled_after (frame_freed m pager) page).done (filled_after (frame_freed m pager) page) after
-
--- the pager of reclaiming
-pub reclaimed-falls : (m : MemoryState) (pager : FailurePlan) (n : ℕ) → NeverFalls pager (reclaimed m pager n).pager
-unfolding reclaimed one_more
-reclaimed-falls m pager zero = falls-none pager
-reclaimed-falls m pager (suc n) = falls-trans pager (reclaimed m pager n).pager (one_more (reclaimed m pager n)).pager (reclaimed-falls m pager n)
-    (at (reclaimed m pager n) (reclaimed m pager n).paging)
-  where
-    step : (b : Bool) (r : Reclaimed) (p : Paged) → NeverFalls r.pager p.pager →
-        NeverFalls r.pager (if b then so_far (r.count + 1) false p.memory p.pager else so_far r.count true p.memory p.pager).pager
-    step true r p given = given
-    step false r p given = given
-
-    from : (r : Reclaimed) (v : Option (ℕ × ℕ)) → NeverFalls r.pager (more_at r v).pager
-    from r None = falls-none r.pager
-    from r (Some v) = step (evicted_at r.memory (Some v) r.pager).done r (evicted_at r.memory (Some v) r.pager) (evicted_at-falls r.memory (Some v) r.pager)
-
-    at : (r : Reclaimed) (b : Bool) → NeverFalls r.pager (if b then r else more_at r (victim_of r.memory.words r.memory.hand)).pager
-    at r true = falls-none r.pager
-    at r false = from r (victim_of r.memory.words r.memory.hand)

@@ -1,11 +1,11 @@
 -- A pass over the guests, one after another.
-use Rattle.std.specs.Prelude.{◌≡◌, ℕ, ◌+◌, ◌<◌, ◌≤◌, List, length, false, None, refl, slice_set, slice_index_or}
+use Rattle.std.specs.Prelude.{◌≡◌, ℕ, ◌+◌, ◌<◌, ◌≤◌, List, length, false, None, slice_set, slice_index_or}
 use Rattle.std.proofs.Common.{arith, sym, subst, inl, inr, ◌∙◌, get_or-set_other, get_or-set_same}
 use Rattle.std.proofs.lemmas.Bool.{cases_eq}
 use Rattle.std.proofs.lemmas.List.{get_or_default, length-set}
 use Rattle.state_words.specs.SeatView.{Seated}
 use Rattle.host_shared.specs.Looks.{GrewByLooks, pages_but, freed_in, freed_in_all}
-use Rattle.host_shared.specs.Reclaiming.{IsReclaim, Passes}
+use Rattle.host_shared.specs.Reclaiming.{IsReclaim}
 use Rattle.host_shared.proofs.Seats.{freed_set}
 
 -- one guest's seat looked at each of its pages once
@@ -18,17 +18,6 @@ pub record PassedBelow (guest : ℕ) (old new : List Seated) (freed : ℕ) : Typ
   pub each : (other : ℕ) (d : Seated) → other < guest → PassedOne (slice_index_or old other d) (slice_index_or new other d)
   pub rest : (other : ℕ) (d : Seated) → guest ≤ other → slice_index_or new other d ≡ slice_index_or old other d
   pub freed_is : freed + freed_in_all old ≡ freed_in_all new
-
-pub passed_none : (seats : List Seated) → PassedBelow 0 seats seats 0
-passed_none seats = record {
-  count = refl;
-  each = λ other d below. absurd (omega arith);
-  rest = λ other d above. refl;
-  freed_is = omega arith;
-}
-
-pub passed_all : (guests : ℕ) (old new : List Seated) (freed : ℕ) → guests ≡ length old → PassedBelow guests old new freed → Passes old new freed
-passed_all guests old new freed all passed = record { each = λ other d below. passed.each other d (omega (arith, all, below)); freed_is = passed.freed_is }
 
 pub passed_more : (guest : ℕ) (old mid : List Seated) (freed more : ℕ) (d s : Seated) → guest < length old → PassedBelow guest old mid freed →
     PassedOne (slice_index_or mid guest d) s → more + freed_in (slice_index_or mid guest d).view ≡ freed_in s.view →

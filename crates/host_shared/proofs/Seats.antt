@@ -22,9 +22,6 @@ module _ (words : List WordsView) (pool : PoolId) (seats : List Seated) (seat : 
   seat_words guest d e inside =
       sym (get_or-map (λ (s : Seated). s.words) seats guest d e (omega (arith, inside, seats_count))) ∙ ap (λ (ws : List WordsView). slice_index_or ws guest e) can.seats_are
 
-  pub seat_idle : (guest : ℕ) (d : Seated) → guest < length words → (slice_index_or seats guest d).view.held ≡ None
-  seat_idle guest d inside = All-get_or (λ (s : Seated). s.view.held ≡ None) seats guest d (omega (arith, inside, seats_count)) can.none_held
-
   pub words_housed : (guest : ℕ) (e : WordsView) → guest < length words → (slice_index_or words guest e).house ≡ pool.table
   words_housed guest e inside = All-get_or (λ (w : WordsView). w.house ≡ pool.table) words guest e inside can.housed
 

@@ -28,17 +28,9 @@ pub none_unless_live : (process number : ℕ) (slot : Option Slot) → is_live_s
 none_unless_live process number None not_live = refl
 none_unless_live process number (Some slot) not_live = false_from_ne_true _ (λ is. both_ways slot.live not_live (mapping_is process number slot is).0)
 
-pub torn-not_live : (slot : Option Slot) → is_torn slot ≡ true → is_live_slot slot ≡ false
-torn-not_live None is = refl
-torn-not_live (Some slot) is = ⊎_elim (λ live. absurd (both_ways _ (ap not live) is)) (λ not_live. not_live) (cases_Bool slot.live)
-
 pub live_torn : (slot : Option Slot) → is_live_slot (torn slot) ≡ false
 live_torn None = refl
 live_torn (Some slot) = refl
-
-pub live-not_torn : (slot : Option Slot) → is_live_slot slot ≡ true → is_torn slot ≡ false
-live-not_torn None is = refl
-live-not_torn (Some slot) is = ap not is
 
 pub torn-is_torn : (slot : Option Slot) → is_live_slot slot ≡ true → is_torn (torn slot) ≡ true
 torn-is_torn None is = is
@@ -50,9 +42,6 @@ in_range_torn (Some slot) in_range = in_range
 
 pub live_within : (slots : List (Option Slot)) (place : ℕ) → is_live_slot (get_or slots place None) ≡ true → place < length slots
 live_within slots place lives = ⊎_elim (λ below. below) (λ past. absurd (both_ways _ (ap is_live_slot (get_or_past slots place None past)) lives)) (cases_lt place (length slots))
-
-pub torn_within : (slots : List (Option Slot)) (place : ℕ) → is_torn (get_or slots place None) ≡ true → place < length slots
-torn_within slots place torn = ⊎_elim (λ below. below) (λ past. absurd (both_ways _ (ap is_torn (get_or_past slots place None past)) torn)) (cases_lt place (length slots))
 
 -- ---- a list of slots with one of them set
 

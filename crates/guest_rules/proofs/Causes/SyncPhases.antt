@@ -1,6 +1,6 @@
 -- Where a sync is: it looks at a page of its file, or writes one back.
 use Rattle.std.proofs.Common.{◌≡◌, ◌⊎◌, ℕ, sym, ap, subst, inl, inr, ◌∙◌}
-use Rattle.guest_rules.specs.declared.processor.Phase.TheVariants.{Start, Fill, Room as AtRoom, Sync as AtSync, SyncWrite, Teardown}
+use Rattle.guest_rules.specs.declared.processor.Phase.TheVariants.{Start, Fill, Room as AtRoom, Sync as AtSync, SyncWrite}
 use Rattle.guest_rules.specs.GuestState.{GuestState, processor_at}
 use Rattle.guest_rules.specs.Fit.{HasLocked}
 use Rattle.guest_rules.specs.Cause.{index_of, IsLooking}
@@ -27,10 +27,6 @@ module _ (g : GuestState) (cpu index : ℕ) where
   pub looks_not_pages_out : (page : ℕ) → LooksAt g cpu index → (processor_at g cpu).phase ≡ AtRoom page → ⊥
   looks_not_pages_out page (inl (start, first)) out = let bad : Start ≡ AtRoom page = sym start ∙ out in cc
   looks_not_pages_out page (inr at) out = let bad : AtSync index ≡ AtRoom page = sym at ∙ out in cc
-
-  pub looks_not_tears : (slot i : ℕ) → LooksAt g cpu index → (processor_at g cpu).phase ≡ Teardown slot i → ⊥
-  looks_not_tears slot i (inl (start, first)) tears = let bad : Start ≡ Teardown slot i = sym start ∙ tears in cc
-  looks_not_tears slot i (inr at) tears = let bad : AtSync index ≡ Teardown slot i = sym at ∙ tears in cc
 
   -- and has locked nothing
   pub looks_unlocked : (page : ℕ) → LooksAt g cpu index → HasLocked g cpu page → ⊥

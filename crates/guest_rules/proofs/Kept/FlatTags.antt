@@ -9,7 +9,7 @@ use Rattle.cmm_types.specs.Bytes.{zeros, zero_page, bytes_at}
 use Rattle.cmm_io.specs.DiskView.{DiskView}
 use Rattle.cmm_flat.specs.declared.mapping.Mapping.{Mapping}
 use Rattle.cmm_flat.specs.declared.mapping.Shown.TheVariants.{OfFile as FlatFile, Anonymous}
-use Rattle.cmm_flat.specs.State.{FlatState, place_of, mapping_at, file_at}
+use Rattle.cmm_flat.specs.State.{FlatState, mapping_at, file_at}
 use Rattle.cmm_flat.specs.Legal.{anonymous_pages}
 use Rattle.cmm_storage.specs.StorageView.{StorageView}
 use Rattle.guest_cache.specs.CacheView.{IsTag}
@@ -43,9 +43,6 @@ is_own maps slot index is = of (slot_at maps slot) refl is
     of : (o : Option Slot) → slot_at maps slot ≡ o → IsLiveOwnPage o index → IsOwn maps slot index
     of None at is = absurd is
     of (Some mapping) at is = record { mapping = mapping; at = at; live = is.0; shown = is.1; below = is.2 }
-
-pub own-is : (maps : MapsView) (slot index : ℕ) → IsOwn maps slot index → IsLiveOwnPage (slot_at maps slot) index
-own-is maps slot index k = rw k.at (k.live, k.shown, k.below)
 
 -- a page of a mapping has a place in the index
 pub own-is_tag : (state : FlatState) (g : GuestState) (v : StorageView) (d : DiskView) → SizesFit g v d → SlotsFit state g.parts → (slot index : ℕ) (mapping : Slot)
@@ -103,14 +100,6 @@ shape_at state parts slot mapping f at live =
 pub record HasOwn (state : FlatState) (maps : MapsView) (slot : ℕ) (mapping : Slot) : Type 0 where
   pub bytes : List ℕ
   pub there : mapping_at state mapping.process mapping.map ≡ Some (record { shown = Anonymous bytes; pins = pins_of maps slot mapping.count })
-
-pub has_own : (state : FlatState) (parts : Parts) (slot : ℕ) (mapping : Slot) → SlotsFit state parts → slot_at parts.maps slot ≡ Some mapping → mapping.live ≡ true → mapping.shown ≡ OfItsOwn
-    → HasOwn state parts.maps slot mapping
-has_own state parts slot mapping f at live shown =
-    let pins = pins_of parts.maps slot mapping.count in
-    let k = shape_own (mapping_at state mapping.process mapping.map) pins
-    (shape_at state parts slot mapping f at live ∙ ap (λ (s : Shown). let out : Option Mapping = Some (record { shown = flat_shown s; pins = pins }) in out) shown) in
-    record { bytes = k.0; there = k.1 }
 
 -- the flat machine's mapping of a slot that was found
 pub record FlatMapped (state : FlatState) (parts : Parts) (process number slot : ℕ) : Type 0 where
@@ -179,9 +168,6 @@ flat_page-own state later maps slot index mapping at same =
 -- all mappings have the bytes of their own that they had
 abbrev pub KeepsOwn : FlatState → FlatState → Type 0
 KeepsOwn state later = (process number : ℕ) → own_bytes (mapping_at later process number) ≡ own_bytes (mapping_at state process number)
-
-pub keeps_own-mappings : (state later : FlatState) → later.mappings ≡ state.mappings → KeepsOwn state later
-keeps_own-mappings state later same process number = ap (λ m. own_bytes (finite.get m (place_of process number))) same
 
 pub flat_page-kept : (state later : FlatState) (parts : Parts) (tag : Tag) → later.files ≡ state.files → KeepsOwn state later → IsFlatTag parts tag
     → flat_page later parts.maps tag ≡ flat_page state parts.maps tag

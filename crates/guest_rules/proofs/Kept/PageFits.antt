@@ -1,5 +1,5 @@
 -- What fit says of one page, its info and its value; what the host may do leaves it.
-use Rattle.std.proofs.Common.{◌≡◌, ◌⊎◌, ◌<◌, ◌≤◌, ◌+◌, ℕ, Bool, true, false, List, length, Some, None, is_some, refl, ap, sym, ◌∙◌, inl, inr, arith, subst}
+use Rattle.std.proofs.Common.{◌≡◌, ◌⊎◌, ◌<◌, ◌≤◌, ◌+◌, ℕ, Bool, true, false, List, length, Some, None, is_some, refl, ap, sym, ◌∙◌, inl, inr}
 use Rattle.std.specs.Prelude.{IsSome}
 use Rattle.std.proofs.lemmas.List.{get_or_past}
 use Rattle.std.proofs.lemmas.Bool.{cases_lt}
@@ -134,14 +134,6 @@ EachPageFits-from parts v d size tags hints contents = record {
     written = λ slot index t some. tags.written page slot index below t some;
   };
 }
-
--- what holds of the free info and of each page below the count holds of every page
-pub every_info : (Fits : PageInfo → Type 0) (pages : PagesView) (count : ℕ) → length pages.infos ≡ count → Fits free_info → ((page : ℕ) → page < count → Fits (info_at pages page)) → (page : ℕ)
-    → Fits (info_at pages page)
-every_info Fits pages count size free each page = elim (cases_lt page count) [
-  | inl below ↦ each page below
-  | inr past ↦ subst Fits (sym (get_or_past pages.infos page free_info (omega (arith, size)))) free
-]
 
 pub HintsFit-from : (parts : Parts) (v : StorageView) (d : DiskView) → v.held ≡ None → EachPageFits parts v d → HintsFit parts v
 HintsFit-from parts v d none fits = record {

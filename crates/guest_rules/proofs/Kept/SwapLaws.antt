@@ -1,5 +1,5 @@
 -- Which tag has which swap slot, and what stays where a swap slot is assigned, or isn't any more.
-use Rattle.std.proofs.Common.{◌≡◌, ◌≢◌, ◌<◌, ◌+◌, ◌==◌, ℕ, true, false, List, length, set, sum, slice_index_or, Option, Some, None, refl, ap, sym, ◌∙◌, inl, inr, position, length-set, get_or-set_same, get_or-set_other}
+use Rattle.std.proofs.Common.{◌≡◌, ◌≢◌, ◌<◌, ◌+◌, ◌==◌, ℕ, true, false, List, length, set, sum, slice_index_or, Option, Some, None, refl, ap, sym, ◌∙◌, inl, inr, position, get_or-set_same, get_or-set_other}
 use Rattle.std.specs.Prelude.{IsSome}
 use Rattle.std.proofs.lemmas.Bool.{and_parts, eqb-true, cases_eq, false_from_ne_true}
 use Rattle.std.proofs.lemmas.List.Quantifiers.{position-Some}
@@ -7,7 +7,7 @@ use Rattle.cmm_types.specs.declared.page.Tag.{Tag}
 use Rattle.cmm_types.specs.declared.page.Tag.TheVariants.{File, Anon}
 use Rattle.guest_cache.specs.CacheView.{CacheView, page_of, holds_page, swap_slot, swap_block, backing_of, HasOneSwapSlot}
 use Rattle.guest_cache.specs.Laws.CacheLaws.{holds-itself}
-use Rattle.guest_maps.specs.FirstPlace.{position_kept, position_only, position_none, none_passes}
+use Rattle.guest_maps.specs.FirstPlace.{position_kept, position_none, none_passes}
 
 -- the tag that a swap slot is assigned to
 abbrev pub swap_tag : CacheView → ℕ → Option Tag
@@ -31,12 +31,6 @@ pub swap_slot-is : (cache : CacheView) (slot index number : ℕ) → swap_slot c
 swap_slot-is cache slot index number e =
     let k = position-Some (holds_page slot index) cache.swap number None e in
     (k.0, holds-is slot index (swap_tag cache number) k.1)
-
-pub swap_slot-some : (cache : CacheView) (slot index number : ℕ) → HasOneSwapSlot cache → number < length cache.swap → swap_tag cache number ≡ Some (Anon slot index)
-    → swap_slot cache (Anon slot index) ≡ Some number
-swap_slot-some cache slot index number distinct below e =
-    position_only (holds_page slot index) cache.swap number None below (ap (holds_page slot index) e ∙ holds-itself slot index)
-    (λ j holds. distinct j number (Anon slot index) (holds-is slot index (swap_tag cache j) holds) e)
 
 -- a tag that no swap slot is assigned to has none
 pub swap_slot-none : (cache : CacheView) (slot index : ℕ) → ((number : ℕ) → swap_tag cache number ≢ Some (Anon slot index)) → swap_slot cache (Anon slot index) ≡ None
@@ -105,11 +99,6 @@ distinct-released old new number k distinct a b t e e' = distinct a b t (was a t
       | inl z ↦ let bad : None ≡ Some t = sym (swap-here old new number None k) ∙ ap (swap_tag new) (sym z) ∙ e in absurd cc
       | inr n ↦ sym (swap-others old new number None k a n) ∙ e
     ]
-
--- the tag that a free swap slot is assigned to has it from then on
-pub swap_slot-assigned : (old new : CacheView) (slot index number : ℕ) → SwapChange old new number (Some (Anon slot index)) → HasOneSwapSlot new → swap_slot new (Anon slot index) ≡ Some number
-swap_slot-assigned old new slot index number k distinct =
-    swap_slot-some new slot index number distinct (rw (k.swap, length-set old.swap number (Some (Anon slot index))) k.below) (swap-here old new number (Some (Anon slot index)) k)
 
 -- the tag whose swap slot isn't assigned any more has none
 pub swap_slot-released : (old new : CacheView) (slot index number : ℕ) → SwapChange old new number None → HasOneSwapSlot old → swap_tag old number ≡ Some (Anon slot index)

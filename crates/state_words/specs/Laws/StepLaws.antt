@@ -1,12 +1,11 @@
 -- How a caller shows what a release by a host's seat needs.
-use Rattle.std.specs.Prelude.{◌≡◌, true, false, Option, None, Some, Result, Ok, Err, is_ok, refl}
+use Rattle.std.specs.Prelude.{◌≡◌, true, false, Some, Result, Ok, Err, is_ok, refl}
 use Rattle.cmm_types.specs.declared.page.Move.{Move}
 use Rattle.cmm_types.specs.declared.page.Refused.{Refused}
 use Rattle.essa_state.specs.declared.fields.Fields.{Fields}
 use Rattle.essa_state.specs.Moves.{move_answer}
-use Rattle.essa_state.specs.PageBody.{Body, FitsWord, Makes, HostMove, moved_body}
-use Rattle.essa_state.specs.Laws.PageValueLaws.{move-fits}
-use Rattle.state_words.specs.Steps.{IsAllowedOn, ok_or, word_after, body_after}
+use Rattle.essa_state.specs.PageBody.{Body, Makes, HostMove, moved_body}
+use Rattle.state_words.specs.Steps.{IsAllowedOn, ok_or, word_after}
 
 makes-ok : (word : Fields) (body : Body) (action : Move) (r : Result Fields Refused) → is_ok r ≡ true → Makes r action word body (ok_or word r) (moved_body action body)
 makes-ok word body action (Ok moved) e = (refl, refl)
@@ -15,7 +14,3 @@ makes-ok word body action (Err why) e = absurd (let bad : false ≡ true = e in 
 -- a move that isn't refused is one of the host's
 pub moves-allowed : (word : Fields) (body : Body) (action : Move) → IsAllowedOn (Some action) word → HostMove word body action (word_after (Some action) word) (moved_body action body)
 moves-allowed word body action e = makes-ok word body action (move_answer word action) e
-
-fits-after : (word : Fields) (body : Body) (action : Option Move) → FitsWord word body → IsAllowedOn action word → FitsWord (word_after action word) (body_after action body)
-fits-after word body None fits e = fits
-fits-after word body (Some action) fits e = move-fits word body action (word_after (Some action) word) (moved_body action body) fits (moves-allowed word body action e)
