@@ -2,6 +2,7 @@
 use Rattle.std.specs.Prelude.{ℕ, ◌<◌, ◌≤◌, ◌^◌, ◌≡◌, ◌++◌, List, [], ◌∷◌, length, Option, Some, None, codes, decimal, if◌then◌else◌}
 use Rattle.std.specs.Str.{bytes_eq}
 use Rattle.hex.specs.Hex.{IsBytes}
+use Rattle.cmm_types.specs.declared.bytes.TheConstants.{MAX_BYTES}
 use Rattle.cmm_types.specs.declared.command.FlatRefusal.{FlatRefusal}
 use Rattle.cmm_types.specs.declared.command.FlatRefusal.TheVariants.{NoMapping, AlreadyMapped, OutOfRange, ReadOnly, Pinned, NotPinned, TooManyMaps}
 use Rattle.cmm_types.specs.declared.command.Cause.{Cause}
@@ -15,7 +16,7 @@ use Rattle.cmm_check.specs.Reading.{if_read, cut, without_front, numeral_of, two
 -- what a report may say of a reply: 1 to 64 bytes, and numbers below 2 to the 32nd
 abbrev pub IsReported : Reply → Type 0
 IsReported Done = Unit {0}
-IsReported (Bytes bytes) = (1 ≤ length bytes) × (length bytes ≤ 64) × IsBytes bytes
+IsReported (Bytes bytes) = (1 ≤ length bytes) × (length bytes ≤ MAX_BYTES) × IsBytes bytes
 IsReported (Refused refusal) = Unit {0}
 IsReported (Fail cause) = CauseFits cause
 
