@@ -18,7 +18,8 @@ use Rattle.cmm_types.specs.InRange.{IsPiece, OpInRange, FileInRange, CpuInRange,
 use Rattle.cmm_scenario.specs.Spelling.{WritesBytes}
 use Rattle.cmm_generate.specs.Writes.{WritesGuest, WritesScenario}
 use Rattle.cmm_generate.specs.Draws.{Draw, give, below, in_turn, single, times}
-use Rattle.cmm_generate.specs.Generated.{file, files, place, count, some_bytes, read, write, sync, load, store, of_kind, command, commands, guest_in_turn, cpu_in_turn, commands_of, discards_after, reclaims_after, events, schedule, cpu_plan, guest_plan, plan, generated}
+use Rattle.cmm_generate.specs.Generated.{file, files, place, count, some_bytes, read, write, sync, load, store, of_kind, command, commands, guest_in_turn}
+use Rattle.cmm_generate.specs.Generated.{cpu_in_turn, commands_of, discards_after, reclaims_after, events, schedule, cpu_plan, guest_plan, plan, generated}
 
 below_limit : (limit number : ℕ) → 0 < limit → (below limit number).value < limit
 unfolding below
@@ -143,7 +144,8 @@ one_more_command : (guest cpu j wait : ℕ) (op : Op) (ops : List Op) → guest 
     → 4 * length (commands_of guest cpu j (op ∷ ops)) + wait ≤ length (op ∷ ops) + 3
 one_more_command guest cpu j wait op ops g c w at few = go (guest_in_turn j == guest && cpu_in_turn j == cpu) refl
   where
-    go : (b : Bool) → (guest_in_turn j == guest && cpu_in_turn j == cpu) ≡ b → 4 * length (if b then op ∷ commands_of guest cpu (suc j) ops else commands_of guest cpu (suc j) ops) + wait ≤ length (op ∷ ops) + 3
+    go : (b : Bool) → (guest_in_turn j == guest && cpu_in_turn j == cpu) ≡ b
+        → 4 * length (if b then op ∷ commands_of guest cpu (suc j) ops else commands_of guest cpu (suc j) ops) + wait ≤ length (op ∷ ops) + 3
     go true its =
         let parts = and_parts (guest_in_turn j == guest) (cpu_in_turn j == cpu) its in
         let is_guest = eqb-true _ _ parts.0 in

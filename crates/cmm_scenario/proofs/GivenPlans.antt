@@ -13,7 +13,8 @@ use Rattle.cmm_scenario.specs.declared.error.ScenarioError.{ScenarioError}
 use Rattle.cmm_scenario.specs.Words.{or_fault}
 use Rattle.cmm_scenario.specs.Faults.{here, inside, at_root, Gives}
 use Rattle.cmm_scenario.specs.Tree.{number, known_keys, member_of, member_or, list_of}
-use Rattle.cmm_scenario.specs.Plans.{text_of, head_of, file_of, cpu_command_of, cpu_plan_of, fails_of, guest_keys, guest_of, totals_of, guests_of, schedule_event_of, schedule_of, scenario_keys, whole_plan_of}
+use Rattle.cmm_scenario.specs.Plans.{text_of, head_of, file_of, cpu_command_of, cpu_plan_of, fails_of, guest_keys}
+use Rattle.cmm_scenario.specs.Plans.{guest_of, totals_of, guests_of, schedule_event_of, schedule_of, scenario_keys, whole_plan_of}
 use Rattle.cmm_scenario.specs.Scenario.{tree_of, scenario_of_tree, scenario_of}
 use Rattle.cmm_scenario.proofs.Given.{Given, given_next, given_any, given_map, given_checked}
 use Rattle.cmm_scenario.proofs.GivenWords.{Between, op-given, event-given}

@@ -1,5 +1,6 @@
 -- A word, a number or bytes that are spelled behind a space read back, and leave the text after them.
-use Rattle.std.proofs.Common.{◌≡◌, ◌<◌, ◌≤◌, ◌*◌, ◌/◌, ◌%◌, ◌^◌, inl, inr, ℕ, zero, suc, Bool, true, false, cond, List, [], ◌∷◌, ◌++◌, length, get_or, take, drop, slice_index, Some, None, Result, Ok, refl, ap, sym, ◌∙◌, arith, unwrap_or}
+use Rattle.std.proofs.Common.{◌≡◌, ◌<◌, ◌≤◌, ◌*◌, ◌/◌, ◌%◌, ◌^◌, inl, inr, ℕ, zero, suc, Bool, true, false, cond, List, [], ◌∷◌}
+use Rattle.std.proofs.Common.{◌++◌, length, get_or, take, drop, slice_index, Some, None, Result, Ok, refl, ap, sym, ◌∙◌, arith, unwrap_or}
 use Rattle.std.specs.Prelude.{◌&&◌, not, nat_eq, nat_lt, nat_le, position}
 use Rattle.std.specs.List.{position_or_len}
 use Rattle.std.specs.Str.{all_ascii_digits}

@@ -8,7 +8,8 @@ use Rattle.cmm_types.specs.declared.page.TheConstants.{PAGE}
 use Rattle.cmm_types.specs.declared.command.Op.{Op}
 use Rattle.cmm_types.specs.declared.event.Event.{Event}
 use Rattle.cmm_types.specs.declared.command.TheConstants.{MAX_FILES}
-use Rattle.cmm_types.specs.declared.plan.TheConstants.{MAX_GUESTS, MAX_CPUS, MAX_PROCESSES, MAX_RECLAIMERS, MAX_GUEST_PAGES, MAX_TOTAL_PAGES, MAX_FRAMES, MAX_TOTAL_BLOCKS, MAX_FILE_PAGES, MAX_COMMANDS, MAX_EVENTS, MAX_FAILS}
+use Rattle.cmm_types.specs.declared.plan.TheConstants.{MAX_GUESTS, MAX_CPUS, MAX_PROCESSES, MAX_RECLAIMERS, MAX_GUEST_PAGES}
+use Rattle.cmm_types.specs.declared.plan.TheConstants.{MAX_TOTAL_PAGES, MAX_FRAMES, MAX_TOTAL_BLOCKS, MAX_FILE_PAGES, MAX_COMMANDS, MAX_EVENTS, MAX_FAILS}
 use Rattle.cmm_types.specs.declared.plan.FilePlan.{FilePlan}
 use Rattle.cmm_types.specs.declared.plan.CpuPlan.{CpuPlan}
 use Rattle.cmm_types.specs.declared.plan.GuestPlan.{GuestPlan}

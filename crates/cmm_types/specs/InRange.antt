@@ -4,7 +4,8 @@ use Rattle.cmm_types.specs.declared.page.TheConstants.{PAGE}
 use Rattle.cmm_types.specs.declared.bytes.TheConstants.{MAX_BYTES}
 use Rattle.cmm_types.specs.declared.command.TheConstants.{MAX_FILES, MAX_MAPPING_NUMBERS, MAX_MAPPING_PAGES, MAX_OFFSETS}
 use Rattle.cmm_types.specs.declared.event.TheConstants.{MAX_RECLAIM}
-use Rattle.cmm_types.specs.declared.plan.TheConstants.{MAX_GUESTS, MAX_CPUS, MAX_PROCESSES, MAX_RECLAIMERS, MAX_GUEST_PAGES, MAX_TOTAL_PAGES, MAX_FRAMES, MAX_TOTAL_BLOCKS, MAX_FILE_PAGES, MAX_COMMANDS, MAX_EVENTS, MAX_FAILS}
+use Rattle.cmm_types.specs.declared.plan.TheConstants.{MAX_GUESTS, MAX_CPUS, MAX_PROCESSES, MAX_RECLAIMERS, MAX_GUEST_PAGES}
+use Rattle.cmm_types.specs.declared.plan.TheConstants.{MAX_TOTAL_PAGES, MAX_FRAMES, MAX_TOTAL_BLOCKS, MAX_FILE_PAGES, MAX_COMMANDS, MAX_EVENTS, MAX_FAILS}
 use Rattle.cmm_types.specs.declared.command.Op.{Op}
 use Rattle.cmm_types.specs.declared.command.Op.TheVariants.{Read, Write, Sync, MapFile, MapAnon, Unmap, Load, Store, Pin, Unpin}
 use Rattle.cmm_types.specs.declared.event.Event.{Event}

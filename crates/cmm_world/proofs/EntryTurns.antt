@@ -43,7 +43,9 @@ use Rattle.guest_rules.specs.Rows.{fill, resolve, clear_entry, released, tear_pa
 use Rattle.guest_rules.specs.Syncs.{write_back}
 use Rattle.guest_rules.specs.MakeRoom.{make_room}
 use Rattle.guest_rules.specs.Turns.{turn, turn_on, turn_in, start_turn, start_refused, start_accepted, start_mapped, start_entry, start_at, start_found, start_free, start_locked}
-use Rattle.guest_rules.specs.Turns.{begin_turn, begin_taken, use_turn, resolve_turn, resolve_in, resolve_next, hit_turn, read_next, done_next, missed_next, fill_turn, fill_next, room_turn, room_next, page_out_turn, sync_turn, write_back_turn, torn_past, torn_next, teardown_entry, teardown_owned, teardown_page, teardown_shown, teardown_in, teardown_turn, refusal_in}
+use Rattle.guest_rules.specs.Turns.{begin_turn, begin_taken, use_turn, resolve_turn, resolve_in, resolve_next, hit_turn, read_next, done_next, missed_next, fill_turn, fill_next, room_turn, room_next}
+use Rattle.guest_rules.specs.Turns.{page_out_turn, sync_turn, write_back_turn, torn_past, torn_next, teardown_entry, teardown_owned, teardown_page, teardown_shown, teardown_in, teardown_turn}
+use Rattle.guest_rules.specs.Turns.{refusal_in}
 use Rattle.cmm_world.proofs.Unbound.{halfway}
 use Rattle.cmm_world.proofs.Reaching.{IsReached, Through, load-through, store-through}
 

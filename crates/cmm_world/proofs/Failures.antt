@@ -12,7 +12,8 @@ use Rattle.essa_state.specs.Orders.{after_order}
 use Rattle.cmm_storage.specs.StorageCall.{StorageCall}
 use Rattle.cmm_storage.specs.Program.{Program, done, take_page, touch_page, order_page, take_change, fetch_page, store_page, put_page, read_block, write_block, Does}
 use Rattle.host_plain.specs.MemoryState.{old_of}
-use Rattle.host_plain.specs.HostState.{HostState, HostStep, host_view, served, pager_of, no_pager, taken, given_back, touch_of, touch_after, with_host_word, host_word, host_bytes, page_stored, list_place}
+use Rattle.host_plain.specs.HostState.{HostState, HostStep, host_view, served, pager_of, no_pager, taken, given_back}
+use Rattle.host_plain.specs.HostState.{touch_of, touch_after, with_host_word, host_word, host_bytes, page_stored, list_place}
 use Rattle.host_plain.specs.Keeping.{faults_of}
 use Rattle.host_plain.proofs.PagerCalls.{touched_page-keeps}
 use Rattle.guest_rules.specs.GuestState.{GuestState, opening_guest}

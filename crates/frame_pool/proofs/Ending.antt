@@ -1,5 +1,6 @@
 -- The frames that a closed table has.
-use Rattle.std.proofs.Common.{◌≡◌, ℕ, zero, suc, ◌+◌, ◌<◌, ◌≤◌, ◌≢◌, List, [], ◌∷◌, ◌++◌, ◌∙◌, map, length, get_or, get_or-set_other, set, sym, refl, ap, subst, arith, append-nil, append_assoc, add-one, length-append}
+use Rattle.std.proofs.Common.{◌≡◌, ℕ, zero, suc, ◌+◌, ◌<◌, ◌≤◌, ◌≢◌, List, [], ◌∷◌, ◌++◌, ◌∙◌, map, length, get_or}
+use Rattle.std.proofs.Common.{get_or-set_other, set, sym, refl, ap, subst, arith, append-nil, append_assoc, add-one, length-append}
 use Rattle.std.specs.Prelude.{Option, Some, None, All, Bool, false}
 use Rattle.std.specs.Mem.Slots.Ownership.{Filled}
 use mathlib.Core.Logic.{dite}

@@ -1,5 +1,6 @@
 -- Each step on the pool's table keeps the rule.
-use Rattle.std.proofs.Common.{◌≡◌, ℕ, zero, suc, ◌+◌, ◌-◌, ◌%◌, ◌^◌, ◌<◌, ◌≤◌, ◌≢◌, List, [], ◌∷◌, ◌++◌, ◌∙◌, eqb, set, length, get_or, sym, refl, ap, subst, ⊎_elim, arith, cond, length-set, get_or-set_same, get_or-set_other}
+use Rattle.std.proofs.Common.{◌≡◌, ℕ, zero, suc, ◌+◌, ◌-◌, ◌%◌, ◌^◌, ◌<◌, ◌≤◌, ◌≢◌, List, [], ◌∷◌, ◌++◌, ◌∙◌, eqb, set, length}
+use Rattle.std.proofs.Common.{get_or, sym, refl, ap, subst, ⊎_elim, arith, cond, length-set, get_or-set_same, get_or-set_other}
 use Rattle.std.specs.Prelude.{Option, Some, None, true, false, nat_lt}
 use mathlib.Core.Logic.{dite}
 use native.Mathlib.Decide.{ℕ_discrete}
@@ -12,7 +13,8 @@ use Rattle.atomic_table.proofs.Lists.{at_set, at_snoc, set_else, set_here, excha
 use Rattle.page_arena.specs.FrameView.{RegionView, FrameView}
 use Rattle.frame_pool.specs.Totals.{total}
 use Rattle.frame_pool.specs.PoolRule.{named_once, names, lent_once, lent, IsFrameOf, WordFits, SlotFits, RegionFits, NamedFits, PoolRule}
-use Rattle.frame_pool.specs.Plays.{PoolSeated, naming, recorded, spent_view, returning, found_out_at, dried, taking, run_with, next_round, spare_counted, looked, claimed, named_lent, named_word, lends, fetches, returns, second_of, paired, compared}
+use Rattle.frame_pool.specs.Plays.{PoolSeated, naming, recorded, spent_view, returning, found_out_at, dried, taking, run_with, next_round}
+use Rattle.frame_pool.specs.Plays.{spare_counted, looked, claimed, named_lent, named_word, lends, fetches, returns, second_of, paired, compared}
 use Rattle.frame_pool.specs.declared.view.PoolView.{PoolView}
 use Rattle.frame_pool.specs.declared.view.Named.{Named}
 use Rattle.frame_pool.specs.declared.view.Named.TheVariants.{Idle, Taken, Lent, Pair, Spent}

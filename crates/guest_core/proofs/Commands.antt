@@ -17,7 +17,8 @@ use Rattle.cmm_flat.specs.Laws.CommandLaws.{command_in_range}
 use Rattle.guest_rules.proofs.Cases.WantedTags.{write-piece}
 use Rattle.guest_rules.proofs.Cases.Placed.{ReachesPlace, pin-reaches}
 use Rattle.guest_rules.proofs.Cases.Reached.{Reaches, load_reaches, store_reaches}
-use Rattle.guest_rules.proofs.Ready.ReadyCalls.{read-piece, load-piece, store-piece, pin-piece, map-pages, map-free, map_own-free, process-below, writers-most, reached-place, pins-most, unpin-some, sync-starts, unmap-number}
+use Rattle.guest_rules.proofs.Ready.ReadyCalls.{read-piece, load-piece, store-piece, pin-piece, map-pages, map-free, map_own-free}
+use Rattle.guest_rules.proofs.Ready.ReadyCalls.{process-below, writers-most, reached-place, pins-most, unpin-some, sync-starts, unmap-number}
 use Rattle.guest_core.specs.Between.{CanLookUp, IsFit}
 
 -- a guest that fits, and the command that a processor has

@@ -15,7 +15,8 @@ use Rattle.guest_maps.specs.declared.slot.Pte.{Pte}
 use Rattle.guest_maps.specs.declared.slot.Shown.TheVariants.{File as OfFile, Anon as OfItsOwn}
 use Rattle.guest_maps.specs.MapsView.{find_slot, free_slot, tag_at}
 use Rattle.guest_rules.specs.GuestState.{GuestState}
-use Rattle.guest_rules.specs.Turns.{refusal_of_new, resolve_turn, pin_turn, use_turn, hit_turn, start_tagged, start_at, start_entry, start_mapped, start_placed, map_turn, unmap_turn, start_accepted, sync_turn, write_back_turn}
+use Rattle.guest_rules.specs.Turns.{refusal_of_new, resolve_turn, pin_turn, use_turn, hit_turn, start_tagged, start_at}
+use Rattle.guest_rules.specs.Turns.{start_entry, start_mapped, start_placed, map_turn, unmap_turn, start_accepted, sync_turn, write_back_turn}
 use Rattle.guest_core.specs.Between.{serving}
 use Rattle.guest_core.specs.TurnParts.{read_turn, write_turn, load_turn, store_turn, sync_at, write_file_back}
 

@@ -1,5 +1,6 @@
 -- Up to which page the mapping of an unmap is torn down, in a guest that fits.
-use Rattle.std.proofs.Common.{◌≡◌, ◌⊎◌, ◌<◌, ◌≤◌, ◌+◌, ◌*◌, ◌^◌, ℕ, not, cond, Bool, true, false, nat_lt, if◌then◌else◌, List, length, Option, Some, None, slice_index_or, refl, ap, sym, subst, ◌∙◌, inl, inr, eq-eqb, arith}
+use Rattle.std.proofs.Common.{◌≡◌, ◌⊎◌, ◌<◌, ◌≤◌, ◌+◌, ◌*◌, ◌^◌, ℕ, not, cond, Bool, true, false, nat_lt, if◌then◌else◌}
+use Rattle.std.proofs.Common.{List, length, Option, Some, None, slice_index_or, refl, ap, sym, subst, ◌∙◌, inl, inr, eq-eqb, arith}
 use Rattle.std.proofs.lemmas.Bool.{cases_lt}
 use Rattle.std.proofs.lemmas.Bool.Decides.{nat_tests}
 use Rattle.std.proofs.lemmas.List.{get_or-set_same}
@@ -271,7 +272,8 @@ pub pair : (g h : GuestState) (r t : Turn) → h ≡ g → t ≡ r → ◌≡◌
 pair g h r t same answer i = (sym same i, sym answer i)
 
 -- the teardown's turn, by what the mapping shows
-tears-shown : (g : GuestState) (cpu slot index : ℕ) (k : IsTearing g cpu slot index) → teardown_turn g cpu slot index ≡ teardown_shown g cpu slot index (mapping_pages (slot_at g.parts.maps slot)) k.mapping.shown
+tears-shown : (g : GuestState) (cpu slot index : ℕ) (k : IsTearing g cpu slot index)
+    → teardown_turn g cpu slot index ≡ teardown_shown g cpu slot index (mapping_pages (slot_at g.parts.maps slot)) k.mapping.shown
 unfolding teardown_turn
 tears-shown g cpu slot index k =
     ap (teardown_in g cpu slot index) k.at ∙ ap (λ (count : ℕ). teardown_shown g cpu slot index count k.mapping.shown) (sym (ap mapping_pages k.at))
@@ -330,7 +332,8 @@ run_row {S} step s t g h r cpu slot index row a went by off run past =
       | inr is ↦ ap (torn_next g cpu slot index (mapping_pages (slot_at g.parts.maps slot)) a) is
     ]
 
-pub run-off : {S : Type 0} (step : S → StorageCall → S → Type 0) (s t : S) (inside g h : GuestState) (r : Turn) (cpu slot index : ℕ) (row : Parts → Program (Parts × Placed)) (a : Parts) (went : Placed)
+pub run-off : {S : Type 0} (step : S → StorageCall → S → Type 0) (s t : S) (inside g h : GuestState) (r : Turn) (cpu slot index : ℕ)
+    (row : Parts → Program (Parts × Placed)) (a : Parts) (went : Placed)
     → inside ≡ g → (went ≡ PlaceDone) ⊎ (went ≡ PlaceGone) → TakesOff g.parts.maps a.maps slot index → DoesAlone {A = Parts × Placed} step (row inside.parts) s (a, went) t
     → ◌≡◌ {A = GuestState × Turn} (torn_past (with_parts inside a) cpu slot index (mapping_pages (slot_at a.maps slot))) (h, r)
     → DoesAlone step (torn_by g cpu slot index (row g.parts)) s (h, r) t

@@ -8,7 +8,8 @@ use Rattle.guest_maps.specs.declared.slot.Slot.{Slot}
 use Rattle.guest_maps.specs.MapsView.{is_live_slot, is_mapping, IsInRange, AreSlots, torn}
 use Rattle.guest_maps.specs.SlotTable.{number_place, IsSlotIndex}
 use Rattle.guest_maps.specs.FirstPlace.{position_none}
-use Rattle.guest_maps.specs.Laws.SlotLaws.{own_mapping, other_mapping, AreSlots-added, AreSlots-torn, position-added_same, position-set_other, position-unlive_same, slots_counted, none_at, none_counted, AreSlots-free}
+use Rattle.guest_maps.specs.Laws.SlotLaws.{own_mapping, other_mapping, AreSlots-added, AreSlots-torn, position-added_same}
+use Rattle.guest_maps.specs.Laws.SlotLaws.{position-set_other, position-unlive_same, slots_counted, none_at, none_counted, AreSlots-free}
 
 number_exact : (p q n m : ℕ) → n < MAX_MAPPING_NUMBERS → m < MAX_MAPPING_NUMBERS → number_place p n ≡ number_place q m → (p ≡ q) × (n ≡ m)
 number_exact p q n m below within same = (omega arith, omega arith)

@@ -1,5 +1,6 @@
 -- Laws of how many entries show a page, where an entry is set, or those of a page are gone.
-use Rattle.std.proofs.Common.{◌≡◌, ◌≢◌, ℕ, zero, suc, ◌+◌, ◌<◌, ◌≤◌, Bool, true, false, cond, List, [], ◌∷◌, length, set, get_or, map, replicate, zero-add, Option, Some, None, refl, sym, ap, ◌∙◌, arith, ⊎_elim, count_by}
+use Rattle.std.proofs.Common.{◌≡◌, ◌≢◌, ℕ, zero, suc, ◌+◌, ◌<◌, ◌≤◌, Bool, true, false, cond, List, [], ◌∷◌, length, set}
+use Rattle.std.proofs.Common.{get_or, map, replicate, zero-add, Option, Some, None, refl, sym, ap, ◌∙◌, arith, ⊎_elim, count_by}
 use Rattle.std.proofs.lemmas.List.{get_or_past}
 use Rattle.std.proofs.lemmas.List.Sums.{sum_by-cons, sum_by-set, get_or-le-sum_by}
 use Rattle.std.proofs.lemmas.Bool.{cases_Bool, cases_lt, cond-true, cond-false, eqb-true, both_ways, and_parts, false_from_ne_true}

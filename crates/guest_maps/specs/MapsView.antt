@@ -1,5 +1,6 @@
 -- The mapping slots of a guest, the entry of each of their places, and which places are pinned.
-use Rattle.std.specs.Prelude.{◌≡◌, ℕ, ◌+◌, ◌*◌, ◌<◌, ◌≤◌, Bool, true, false, not, cond, ◌&&◌, ◌==◌, nat_lt, List, length, map, Option, Some, None, ⊤, is_none, replicate, slice_set, slice_range, slice_index_or, position, count_by}
+use Rattle.std.specs.Prelude.{◌≡◌, ℕ, ◌+◌, ◌*◌, ◌<◌, ◌≤◌, Bool, true, false, not, cond, ◌&&◌, ◌==◌, nat_lt, List, length, map}
+use Rattle.std.specs.Prelude.{Option, Some, None, ⊤, is_none, replicate, slice_set, slice_range, slice_index_or, position, count_by}
 use Rattle.std.specs.List.{list_any}
 use Rattle.cmm_types.specs.declared.command.TheConstants.{MAX_MAPPING_NUMBERS, MAX_MAPPING_PAGES}
 use Rattle.cmm_types.specs.declared.plan.TheConstants.{MAX_MAPPING_SLOTS, MAX_PROCESSES}

@@ -2,7 +2,8 @@
 use Rattle.std.proofs.Common.{◌≡◌, ◌<◌, ◌≤◌, ◌+◌, ◌-◌, ℕ, zero, suc, Bool, true, false, cond, Some, None, ap, ◌∙◌, arith}
 use Rattle.std.specs.List.{find, range_with_len}
 
-one_and_rest : (test : ℕ → Bool) (page count : ℕ) → page < count → find test (range_with_len page (count - page)) ≡ cond (test page) (Some page) (find test (range_with_len (page + 1) (count - (page + 1))))
+one_and_rest : (test : ℕ → Bool) (page count : ℕ) → page < count
+    → find test (range_with_len page (count - page)) ≡ cond (test page) (Some page) (find test (range_with_len (page + 1) (count - (page + 1))))
 one_and_rest test page count below =
     let more : count - page ≡ suc (count - (page + 1)) = omega arith in
     ap (λ n. find test (range_with_len page n)) more

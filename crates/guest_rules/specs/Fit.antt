@@ -1,5 +1,6 @@
 -- What stands between any two turns of a guest, its pages' values and its disk.
-use Rattle.std.specs.Prelude.{◌≡◌, ◌<◌, ◌≤◌, ◌==◌, ◌&&◌, ℕ, zero, suc, ◌+◌, ◌*◌, List, [], length, map, sum, sum_by, Bool, true, false, Option, Some, None, Contains, slice_get, slice_index_or, ◌⊎◌, IsSome}
+use Rattle.std.specs.Prelude.{◌≡◌, ◌<◌, ◌≤◌, ◌==◌, ◌&&◌, ℕ, zero, suc, ◌+◌, ◌*◌, List, [], length, map, sum, sum_by}
+use Rattle.std.specs.Prelude.{Bool, true, false, Option, Some, None, Contains, slice_get, slice_index_or, ◌⊎◌, IsSome}
 use Rattle.std.specs.FinMap as finite
 use Rattle.std.specs.List.{range_with_len}
 use Rattle.cmm_types.specs.declared.page.TheConstants.{PAGE}

@@ -1,5 +1,6 @@
 -- When a step of the host failed: a call of its pager did, or there was no page to take a frame from.
-use Rattle.std.specs.Prelude.{◌≡◌, refl, ℕ, ◌+◌, ◌-◌, ◌<◌, ◌≤◌, List, [], ◌∷◌, zero, suc, length, Bool, true, false, not, ◌||◌, is_ok, is_some, Option, Some, None, Result, Ok, Err, position, nat_lt, if◌then◌else◌}
+use Rattle.std.specs.Prelude.{◌≡◌, refl, ℕ, ◌+◌, ◌-◌, ◌<◌, ◌≤◌, List, [], ◌∷◌, zero, suc, length, Bool, true, false, not}
+use Rattle.std.specs.Prelude.{◌||◌, is_ok, is_some, Option, Some, None, Result, Ok, Err, position, nat_lt, if◌then◌else◌}
 use Rattle.std.specs.Option.{option_or}
 use Rattle.std.specs.List.{list_any}
 use Rattle.std.proofs.Common.{arith, ap, sym, subst, inl, inr, ◌∙◌}

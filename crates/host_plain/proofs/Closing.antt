@@ -1,5 +1,6 @@
 -- What a host that is closed gives back: every frame of its region.
-use Rattle.std.specs.Prelude.{◌≡◌, refl, ℕ, zero, suc, ◌+◌, ◌==◌, ◌<◌, ◌≤◌, List, [], ◌∷◌, ◌++◌, length, map, take, drop, slice_index_or, filter, not, Bool, true, false, Option, Some, None, IfSome, All, nat_lt, if◌then◌else◌}
+use Rattle.std.specs.Prelude.{◌≡◌, refl, ℕ, zero, suc, ◌+◌, ◌==◌, ◌<◌, ◌≤◌, List, [], ◌∷◌, ◌++◌, length, map, take, drop}
+use Rattle.std.specs.Prelude.{slice_index_or, filter, not, Bool, true, false, Option, Some, None, IfSome, All, nat_lt, if◌then◌else◌}
 use Rattle.std.specs.List.{sum_by, range_with_len}
 use Rattle.std.specs.Option.{option_map, option_to_list}
 use Rattle.std.proofs.Common.{arith, ap, sym, subst, ◌∙◌, zero-add}

@@ -20,7 +20,8 @@ use Rattle.cmm_storage.specs.StorageCall.{StorageCall, Take, Touch, Give, TakeCh
 use Rattle.cmm_storage.specs.StorageView.{Follows, Keeps, IsPlaced, bytes_of, content_after, stored_value}
 use Rattle.cmm_types.specs.Bytes.{with_bytes}
 use Rattle.host_plain.specs.MemoryState.{MemoryState, word_at, body_at, memory_value_at, with_word, stored_at, old_of, no_body}
-use Rattle.host_plain.specs.HostState.{HostState, IsHost, HostStep, CanCall, host_view, held_content, host_word, touch_of, touch_after, host_bytes, list_place, pages_of, pager_of, no_pager, held_word, with_host_word, page_stored, taken, given_back}
+use Rattle.host_plain.specs.HostState.{HostState, IsHost, HostStep, CanCall, host_view, held_content, host_word, touch_of, touch_after}
+use Rattle.host_plain.specs.HostState.{host_bytes, list_place, pages_of, pager_of, no_pager, held_word, with_host_word, page_stored, taken, given_back}
 use Rattle.host_plain.proofs.Places.{place-below}
 use Rattle.host_plain.specs.Touches.{Touched, touched_page}
 use Rattle.host_plain.specs.Keeping.{TouchKeeps, TouchLeaves, FaultsOf, is_paged, faults_of}

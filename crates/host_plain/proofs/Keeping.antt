@@ -1,5 +1,6 @@
 -- The host's own steps keep what they are to keep.
-use Rattle.std.specs.Prelude.{◌≡◌, ◌≢◌, refl, ℕ, zero, suc, ◌+◌, ◌-◌, ◌<◌, ◌≤◌, List, length, Bool, true, false, is_ok, is_some, Option, Some, None, Result, Ok, Err, position, nat_lt, if◌then◌else◌, IfSome}
+use Rattle.std.specs.Prelude.{◌≡◌, ◌≢◌, refl, ℕ, zero, suc, ◌+◌, ◌-◌, ◌<◌, ◌≤◌, List, length, Bool, true, false}
+use Rattle.std.specs.Prelude.{is_ok, is_some, Option, Some, None, Result, Ok, Err, position, nat_lt, if◌then◌else◌, IfSome}
 use Rattle.std.specs.Option.{option_or}
 use Rattle.std.proofs.Common.{arith, ap, sym, subst, inl, inr, ◌∙◌, get_or-set_other, get_or-set_same}
 use Rattle.std.proofs.Math.ListN.{length-set}
@@ -22,7 +23,8 @@ use Rattle.marks.specs.Marking.{wrapped}
 use Rattle.host_clock.proofs.Cycle.{place_candidate}
 use Rattle.host_plain.specs.declared.moves.ApplyError.TheVariants.{Paging}
 use Rattle.host_plain.specs.MemoryState.{MemoryState, IsMemory, IsPage, IsWholeBody, no_body, word_at, body_at, memory_value_at, with_word, memory_with_page, with_moved, frames_of}
-use Rattle.host_plain.specs.Eviction.{Paged, aged_words, aged_candidate, word_in, words_passed, passed_by, discarded_at, preserved_at, brought_at, aged_at, moved_page, reclaimed_page, evicted_at, evicted, frame_freed}
+use Rattle.host_plain.specs.Eviction.{Paged, aged_words, aged_candidate, word_in, words_passed, passed_by, discarded_at}
+use Rattle.host_plain.specs.Eviction.{preserved_at, brought_at, aged_at, moved_page, reclaimed_page, evicted_at, evicted, frame_freed}
 use Rattle.host_plain.specs.HostMoves.{Applied, Reclaimed, move_answered, brought_after, allowed_move, applied_as, applied, reclaim_counted, more_at, one_more, reclaimed}
 use Rattle.host_plain.specs.Keeping.{HostKeeps, SamePage}
 use Rattle.host_plain.proofs.Kept.{page_kept, word_kept, length-aged_words, hand_kept, wrapped-below, aged-permitted, aged-resident, aged_words-resident, evicted-frees, evicted-other, other_place}

@@ -20,7 +20,8 @@ use Rattle.cmm_types.specs.Bytes.{with_bytes, zero_page}
 use Rattle.essa_state.specs.PageBody.{Body, FitsWord, frame_bytes}
 use Rattle.host_plain.specs.Eviction.{aged_words, aged_candidate, word_in, words_passed, passed_by, moved_page, reclaimed_page, preserved_at}
 use Rattle.marks.specs.Marking.{wrapped}
-use Rattle.host_plain.specs.MemoryState.{MemoryState, word_at, body_at, with_word, memory_with_page, with_moved, with_use, stored_at, IsMemory, IsNumbering, IsPage, body_with_bytes, no_body, frames_of, resident_of}
+use Rattle.host_plain.specs.MemoryState.{MemoryState, word_at, body_at, with_word, memory_with_page, with_moved, with_use}
+use Rattle.host_plain.specs.MemoryState.{stored_at, IsMemory, IsNumbering, IsPage, body_with_bytes, no_body, frames_of, resident_of}
 use Rattle.host_plain.specs.Numbering.{Numbering, number_at, renumbered}
 use Rattle.host_plain.specs.Touches.{zeroed_at}
 use Rattle.host_plain.proofs.Numbers.{numbers_same, resident_set, renumbered_kept, renumbered-spare}

@@ -1,5 +1,6 @@
 -- Each frame's number stays at one place, over each change.
-use Rattle.std.specs.Prelude.{◌≡◌, ◌≢◌, refl, ℕ, zero, suc, ◌+◌, ◌-◌, ◌*◌, ◌<◌, ◌≤◌, List, ◌++◌, length, take, Bool, true, false, Option, Some, None, is_some, nat_lt, if◌then◌else◌, slice_get, slice_index_or, slice_set, replicate}
+use Rattle.std.specs.Prelude.{◌≡◌, ◌≢◌, refl, ℕ, zero, suc, ◌+◌, ◌-◌, ◌*◌, ◌<◌, ◌≤◌, List, ◌++◌, length, take, Bool, true, false}
+use Rattle.std.specs.Prelude.{Option, Some, None, is_some, nat_lt, if◌then◌else◌, slice_get, slice_index_or, slice_set, replicate}
 use Rattle.std.specs.List.{sum_by, range_with_len}
 use Rattle.std.specs.Option.{option_to_list}
 use Rattle.std.proofs.Common.{arith, ap, sym, inl, inr, ◌∙◌, get_or-set_other, get_or-set_same, zero-add}

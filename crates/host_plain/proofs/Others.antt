@@ -9,7 +9,8 @@ use Rattle.essa_state.specs.Orders.{after_order}
 use Rattle.cmm_storage.specs.StorageCall.{StorageCall, Take, Touch, Give, TakeChange, Fetch, Store, Put}
 use Rattle.cmm_storage.specs.Views.{page_called}
 use Rattle.host_plain.specs.MemoryState.{MemoryState, memory_value_at, with_word, stored_at}
-use Rattle.host_plain.specs.HostState.{HostState, IsHost, HostStep, CanCall, AreStarts, SparesOthers, Leaves, Serves, list_place, pages_of, pager_of, no_pager, first_place, value_of, host_word, held_word, touch_of, touch_after}
+use Rattle.host_plain.specs.HostState.{HostState, IsHost, HostStep, CanCall, AreStarts, SparesOthers, Leaves, Serves, list_place}
+use Rattle.host_plain.specs.HostState.{pages_of, pager_of, no_pager, first_place, value_of, host_word, held_word, touch_of, touch_after}
 use Rattle.host_plain.proofs.Touching.{touched_page-keeps}
 use Rattle.host_plain.proofs.Places.{span-of}
 use Rattle.host_plain.proofs.Sound.{host_with, held-below}

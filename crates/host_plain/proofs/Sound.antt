@@ -16,7 +16,8 @@ use Rattle.cmm_storage.specs.declared.storage.Trap.{Trap}
 use Rattle.cmm_storage.specs.declared.storage.Trap.TheVariants.{Discarded, Paging, NoFrame}
 use Rattle.host_plain.specs.MemoryState.{MemoryState, IsMemory, word_at, with_word, stored_at}
 use Rattle.host_plain.specs.HostMoves.{applied}
-use Rattle.host_plain.specs.HostState.{HostState, IsHost, host_word, list_place, pages_of, pager_of, held_word, touch_of, touch_after, move_of, after_move, reclaim_of, after_reclaim, HostMayMake, first_place, with_host_word, page_stored, taken, given_back, held_place}
+use Rattle.host_plain.specs.HostState.{HostState, IsHost, host_word, list_place, pages_of, pager_of, held_word, touch_of, touch_after, move_of}
+use Rattle.host_plain.specs.HostState.{after_move, reclaim_of, after_reclaim, HostMayMake, first_place, with_host_word, page_stored, taken, given_back, held_place}
 use Rattle.host_plain.proofs.Kept.{word_kept, store_kept, order-resident}
 use Rattle.host_plain.specs.Keeping.{HostKeeps, TouchLeaves}
 use Rattle.host_plain.proofs.Keeping.{busy_set, applied-keeps, reclaimed-keeps}

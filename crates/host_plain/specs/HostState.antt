@@ -1,5 +1,6 @@
 -- The host of several guests, and what each call on the pages of the one that it serves does. Nothing is left free.
-use Rattle.std.specs.Prelude.{◌≡◌, ◌≢◌, ℕ, ◌+◌, ◌-◌, ◌≤◌, ◌<◌, List, [], length, take, drop, Bool, true, false, ◌||◌, Option, Some, None, Ok, Err, is_ok, is_some, slice_get, slice_index_or, slice_set, map, sum, Result}
+use Rattle.std.specs.Prelude.{◌≡◌, ◌≢◌, ℕ, ◌+◌, ◌-◌, ◌≤◌, ◌<◌, List, [], length, take, drop, Bool, true, false, ◌||◌}
+use Rattle.std.specs.Prelude.{Option, Some, None, Ok, Err, is_ok, is_some, slice_get, slice_index_or, slice_set, map, sum, Result}
 use Rattle.std.specs.List.{range_with_len}
 use Rattle.cmm_types.specs.declared.page.TheConstants.{PAGE}
 use Rattle.cmm_types.specs.declared.page.Content.{Content}

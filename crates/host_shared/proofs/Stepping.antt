@@ -26,7 +26,8 @@ use Rattle.host_shared.specs.Reclaiming.{CanReclaim}
 use Rattle.host_shared.specs.Searching.{SearchCause}
 use Rattle.host_shared.specs.PagerCalls.{PagerCalled}
 use Rattle.host_shared.specs.Touching.{TouchMakes, TouchCause}
-use Rattle.host_shared.specs.Binding.{StorageState, page_of_hold, held_page, value_in, is_touched, IsTied, IsStorage, seen_of, storage_view, StaysBound, LeavesHost, Uses, BoundStep, IsBoundTo, raised_at}
+use Rattle.host_shared.specs.Binding.{StorageState, page_of_hold, held_page, value_in, is_touched, IsTied, IsStorage}
+use Rattle.host_shared.specs.Binding.{seen_of, storage_view, StaysBound, LeavesHost, Uses, BoundStep, IsBoundTo, raised_at}
 use Rattle.host_shared.proofs.Seats.{words_housed}
 use Rattle.host_shared.proofs.Following.{in-here, take-ok, take-busy, give, change, fetch, store, put, touch-ok, touch-trapped}
 

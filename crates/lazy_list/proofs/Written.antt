@@ -3,7 +3,8 @@ use Rattle.std.proofs.Common.{◌≡◌, ℕ, zero, suc, ◌+◌, ◌-◌, ◌<�
 use Rattle.std.proofs.lemmas.List.{set-append_left, set-append_right, length-set, length-append, length-replicate, length_push}
 
 -- the place lies before them
-pub set-before : {X : Type 0} (ws : List X) (len place : ℕ) (b v : X) → place < length ws → set ws place v ++ replicate (len - length (set ws place v)) b ≡ set (ws ++ replicate (len - length ws) b) place v
+pub set-before : {X : Type 0} (ws : List X) (len place : ℕ) (b v : X) → place < length ws
+    → set ws place v ++ replicate (len - length (set ws place v)) b ≡ set (ws ++ replicate (len - length ws) b) place v
 set-before ws len place b v within =
     ap (λ n. set ws place v ++ replicate (len - n) b) (length-set ws place v) ∙ sym (set-append_left ws (replicate (len - length ws) b) place v within)
 
@@ -24,7 +25,8 @@ put_among : {X : Type 0} (ws : List X) (len place : ℕ) (b v : X) → length ws
 put_among ws len place b v above below =
     append_assoc (ws ++ replicate (place - length ws) b) (v ∷ []) (replicate (len - (place + 1)) b)
     ∙ append_assoc ws (replicate (place - length ws) b) (v ∷ replicate (len - (place + 1)) b)
-    ∙ sym (set-append_right ws (replicate (len - length ws) b) (length ws) place v refl above ∙ ap (λ xs. ws ++ xs) (set-among (len - length ws) (place - length ws) (len - (place + 1)) b v (omega arith)))
+    ∙ sym (set-append_right ws (replicate (len - length ws) b) (length ws) place v refl above
+        ∙ ap (λ xs. ws ++ xs) (set-among (len - length ws) (place - length ws) (len - (place + 1)) b v (omega arith)))
 
 -- it lies among them
 pub set-behind : {X : Type 0} (ws xs : List X) (len place : ℕ) (b v : X) → length ws ≤ place → place < len → xs ≡ (ws ++ replicate (place - length ws) b) ++ v ∷ []

@@ -86,7 +86,8 @@ within-after plan walk entry within next =
     let at = commanded plan entry.cpu entry.k entry.op next.command in
     let below = slice_get_within at.its.commands entry.k entry.op at.command in
     let few : (progress_of walk entry.cpu).next + 1 ≤ many at.its = omega (arith, below, next.number) in
-    within-set walk.cpus plan.cpus entry.cpu at.its (record { next = (progress_of walk entry.cpu).next + 1; ended = pages_ended walk.flat (process_of plan entry.cpu) entry.op entry.reply }) within at.there few
+    within-set walk.cpus plan.cpus entry.cpu at.its
+    (record { next = (progress_of walk entry.cpu).next + 1; ended = pages_ended walk.flat (process_of plan entry.cpu) entry.op entry.reply }) within at.there few
 
 sum-after : (plan : GuestPlan) (walk : Walk) (entry : Entry) → Within walk.cpus plan.cpus → IsNext plan walk entry → sum_by next_of (after plan walk entry).cpus ≡ sum_by next_of walk.cpus + 1
 sum-after plan walk entry within next =

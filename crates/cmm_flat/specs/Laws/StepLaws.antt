@@ -17,7 +17,8 @@ use Rattle.cmm_types.specs.Bytes.{zeros, bytes_at}
 use Rattle.cmm_flat.specs.Mapping.{place_cmp, shows_writable, with_pin}
 use Rattle.cmm_flat.specs.Laws.PlaceLaws.{exact_places, places_total}
 use Rattle.cmm_flat.specs.State.{FlatState, place_of, mapping_at, file_at}
-use Rattle.cmm_flat.specs.Flat.{of_live, is_full, in_file, in_mapping, has_page, has_pin, pins_page, first_refusal, refusal_of, loaded, with_file_bytes, with_mapping, without_mapping, stored, none_pinned, on_live, effect, unless_refused, flat_step}
+use Rattle.cmm_flat.specs.Flat.{of_live, is_full, in_file, in_mapping, has_page, has_pin, pins_page, first_refusal, refusal_of, loaded}
+use Rattle.cmm_flat.specs.Flat.{with_file_bytes, with_mapping, without_mapping, stored, none_pinned, on_live, effect, unless_refused, flat_step}
 
 pub mapping_at-with_mapping : (state : FlatState) (process number : ℕ) (mapping : Mapping) → mapping_at (with_mapping state process number mapping) process number ≡ Some mapping
 mapping_at-with_mapping state process number mapping =

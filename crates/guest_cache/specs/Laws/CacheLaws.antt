@@ -1,5 +1,6 @@
 -- Laws of the places of tags, for the crates that keep an index of them.
-use Rattle.std.proofs.Common.{◌≡◌, ◌≢◌, ℕ, ◌+◌, ◌*◌, ◌<◌, ◌≤◌, ◌==◌, true, false, List, length, take, sum, get_or, slice_set, slice_index_or, Option, None, Some, refl, ap, sym, ◌∙◌, subst, ⊎_elim, arith}
+use Rattle.std.proofs.Common.{◌≡◌, ◌≢◌, ℕ, ◌+◌, ◌*◌, ◌<◌, ◌≤◌, ◌==◌, true, false, List, length, take, sum, get_or}
+use Rattle.std.proofs.Common.{slice_set, slice_index_or, Option, None, Some, refl, ap, sym, ◌∙◌, subst, ⊎_elim, arith}
 use Rattle.std.proofs.lemmas.List.{length-replicate, get_or-set_same, get_or-set_other, get_or-replicate, take-take}
 use Rattle.std.proofs.lemmas.List.Sums.{sum_by_more, sum_by-take-le}
 use Rattle.std.proofs.lemmas.List.Quantifiers.{position-Some}
@@ -8,7 +9,8 @@ use Rattle.std.proofs.lemmas.Bool.Decides.{nat_tests}
 use Rattle.cmm_types.specs.declared.command.TheConstants.{MAX_MAPPING_PAGES}
 use Rattle.cmm_types.specs.declared.page.Tag.{Tag}
 use Rattle.cmm_types.specs.declared.page.Tag.TheVariants.{File, Anon}
-use Rattle.guest_cache.specs.CacheView.{CacheView, pages_before, IsTag, index_place, page_of, opening_cache, with_page, without_page, holds_page, swap_slot, swap_block, assigned, unassigned, backing_of}
+use Rattle.guest_cache.specs.CacheView.{CacheView, pages_before, IsTag, index_place, page_of, opening_cache, with_page}
+use Rattle.guest_cache.specs.CacheView.{without_page, holds_page, swap_slot, swap_block, assigned, unassigned, backing_of}
 
 -- every tag has its place in the index
 pub record IsCache (cache : CacheView) : Type 0 where

@@ -9,7 +9,9 @@ use Rattle.guest_maps.specs.declared.slot.Pte.{Pte}
 use Rattle.guest_maps.specs.declared.slot.Shown.{Shown}
 use Rattle.guest_maps.specs.declared.slot.Slot.{Slot}
 use Rattle.guest_maps.specs.declared.slot.Spot.{Spot}
-use Rattle.guest_maps.specs.MapsView.{MapsView, slot_at, is_live_slot, is_torn, is_mapping, find_slot, free_slot, live_slots, torn_slots, torn, place_at, entry_at, pinned_at, slot_has_page, IsPlace, spot_of, spot_at, tag_in, tag_at, stores_to, entries_showing, writers_showing, unless_shows, new_mapping, tag_of, with_slot, with_slot_mapped, torn_slot, freed_slot, with_entry, without_entries_of, with_pinned, opening_maps}
+use Rattle.guest_maps.specs.MapsView.{MapsView, slot_at, is_live_slot, is_torn, is_mapping, find_slot, free_slot, live_slots, torn_slots, torn, place_at, entry_at}
+use Rattle.guest_maps.specs.MapsView.{pinned_at, slot_has_page, IsPlace, spot_of, spot_at, tag_in, tag_at, stores_to, entries_showing, writers_showing, unless_shows}
+use Rattle.guest_maps.specs.MapsView.{new_mapping, tag_of, with_slot, with_slot_mapped, torn_slot, freed_slot, with_entry, without_entries_of, with_pinned, opening_maps}
 use Rattle.guest_maps.specs.FirstPlace.{position_none, none_passes, none_within}
 use Rattle.guest_maps.specs.Laws.SlotLaws.{position-set_other, live_within, other_mapping, torn-is_torn, slots_counted, none_counted, none_at, all_counted}
 use Rattle.guest_maps.specs.EntryCounts.{count_by-none, get_or-unless_shows, showing-gone, writers-gone, writers-stay}

@@ -7,7 +7,8 @@ use Rattle.std.proofs.lemmas.List.Folds.{list_any_at, list_any_none}
 use Rattle.std.proofs.lemmas.Bool.{cases_eq, both_ways, false_from_ne_true}
 use Rattle.cmm_types.specs.declared.command.TheConstants.{MAX_MAPPING_PAGES}
 use Rattle.guest_maps.specs.declared.slot.Slot.{Slot}
-use Rattle.guest_maps.specs.MapsView.{MapsView, slot_at, is_live_slot, is_mapping, find_slot, live_slots, torn, place_at, pinned_at, any_pinned, slot_has_page, tag_in, tag_at, with_slot, torn_slot, freed_slot}
+use Rattle.guest_maps.specs.MapsView.{MapsView, slot_at, is_live_slot, is_mapping, find_slot, live_slots, torn, place_at}
+use Rattle.guest_maps.specs.MapsView.{pinned_at, any_pinned, slot_has_page, tag_in, tag_at, with_slot, torn_slot, freed_slot}
 use Rattle.guest_maps.specs.FirstPlace.{position_none}
 use Rattle.guest_maps.specs.Laws.SlotLaws.{position-set_other, none_unless_live, live_torn, live_within, unlive_apart, slots_counted}
 use Rattle.guest_maps.specs.Laws.MapsLaws.{slot_at-torn_slot_same}

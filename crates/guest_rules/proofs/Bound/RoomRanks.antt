@@ -9,7 +9,8 @@ use Rattle.guest_rules.specs.declared.processor.Phase.TheVariants.{Start, Fill, 
 use Rattle.guest_rules.specs.GuestState.{GuestState, processor_at}
 use Rattle.guest_rules.proofs.Cases.TurnCases.{SeeksRoom, Goes}
 use Rattle.guest_rules.proofs.Causes.SyncPhases.{looks_not_pages_out}
-use Rattle.guest_rules.proofs.Bound.Ranks.{OpRank, no_tag, served, has_page, fills_own, has_none, has_lost, room_clean, pages_out_own, needs_room, fills, pages_out, at_look, at_write, unmaps, tears, PagesOutOwn, not_none, starts_not_fills, wants_not_none, wants_not_sync, wants_not_unmap}
+use Rattle.guest_rules.proofs.Bound.Ranks.{OpRank, no_tag, served, has_page, fills_own, has_none, has_lost, room_clean, pages_out_own, needs_room, fills, pages_out}
+use Rattle.guest_rules.proofs.Bound.Ranks.{at_look, at_write, unmaps, tears, PagesOutOwn, not_none, starts_not_fills, wants_not_none, wants_not_sync, wants_not_unmap}
 
 -- a processor whose command needs room has at least 5 turns left
 pub rank-seeks : (g : GuestState) (v : StorageView) (cpu : ℕ) (op : Op) (left : ℕ) → SeeksRoom g cpu op → OpRank g v cpu op left → 5 ≤ left

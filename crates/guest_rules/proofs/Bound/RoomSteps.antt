@@ -23,7 +23,8 @@ use Rattle.guest_rules.specs.Rows.{without_tag, freed, handled, with_change}
 use Rattle.guest_rules.specs.Syncs.{locked, cleaned}
 use Rattle.guest_rules.specs.MakeRoom.{lacks_block, is_locked, is_pinned, can_go, first_to_go, with_swap_slot, locked_to_go, behind}
 use Rattle.guest_rules.specs.Fit.{Fit}
-use Rattle.guest_rules.proofs.Cases.TurnCases.{RoomCase, room_gone, was_cleared, was_locked_to_go, room_missed, room_waited, had_no_page, page_out_missed, was_paged_out, page_out_failed, Has, SeeksRoom, Goes, PagesOut, IsRehinted}
+use Rattle.guest_rules.proofs.Cases.TurnCases.{RoomCase, room_gone, was_cleared, was_locked_to_go, room_missed, room_waited, had_no_page}
+use Rattle.guest_rules.proofs.Cases.TurnCases.{page_out_missed, was_paged_out, page_out_failed, Has, SeeksRoom, Goes, PagesOut, IsRehinted}
 use Rattle.guest_rules.proofs.Cases.FirstPage.{IsFirst, CanGo, first_from-Some, first_from-kept, can_go-parts}
 use Rattle.guest_rules.proofs.Causes.Processors.{at_phase}
 use Rattle.guest_rules.proofs.Kept.Changes.{InfoChange}

@@ -24,7 +24,9 @@ use Rattle.guest_rules.specs.GuestState.{GuestState, processor_at, with_parts, w
 use Rattle.guest_rules.specs.Rows.{filled, handled, mapped}
 use Rattle.guest_rules.specs.Turns.{begun}
 use Rattle.guest_rules.specs.Fit.{Fit}
-use Rattle.guest_rules.proofs.Cases.TurnCases.{TurnCase, was_idle, was_refused, was_mapped, was_mapped_own, waited, missed, missed_rehinted, was_begun, was_gone, was_read, was_written, touch_failed, was_resolved, was_loaded, was_stored, entry_failed, fill_failed, was_filled, Has, Starts, Wants, Maps, HasPage, IsRehinted, was_pinned, was_sync, was_room, was_unmapped, was_torn, was_torn_own}
+use Rattle.guest_rules.proofs.Cases.TurnCases.{TurnCase, was_idle, was_refused, was_mapped, was_mapped_own, waited, missed, missed_rehinted, was_begun, was_gone, was_read, was_written, touch_failed}
+use Rattle.guest_rules.proofs.Cases.TurnCases.{was_resolved, was_loaded, was_stored, entry_failed, fill_failed, was_filled, Has, Starts, Wants, Maps, HasPage, IsRehinted, was_pinned, was_sync}
+use Rattle.guest_rules.proofs.Cases.TurnCases.{was_room, was_unmapped, was_torn, was_torn_own}
 use Rattle.guest_rules.proofs.Causes.Processors.{at_phase}
 use Rattle.guest_rules.proofs.Causes.CauseForms.{fills_needing}
 use Rattle.guest_rules.proofs.Kept.Tables.{page_of-handled, tag-begun}

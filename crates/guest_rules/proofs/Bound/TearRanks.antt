@@ -10,7 +10,8 @@ use Rattle.guest_rules.specs.GuestState.{GuestState, processor_at}
 use Rattle.guest_rules.specs.Turns.{mapping_pages}
 use Rattle.guest_rules.specs.Alone.{pages_to_tear}
 use Rattle.guest_rules.proofs.Cases.TurnCases.{Wants}
-use Rattle.guest_rules.proofs.Bound.Ranks.{OpRank, no_tag, served, has_page, fills_own, has_none, has_lost, room_clean, pages_out_own, needs_room, fills, pages_out, at_look, at_write, unmaps, tears, starts_not_fills, wants_not_unmap}
+use Rattle.guest_rules.proofs.Bound.Ranks.{OpRank, no_tag, served, has_page, fills_own, has_none, has_lost, room_clean, pages_out_own}
+use Rattle.guest_rules.proofs.Bound.Ranks.{needs_room, fills, pages_out, at_look, at_write, unmaps, tears, starts_not_fills, wants_not_unmap}
 
 unmap_wants_none : (g : GuestState) (cpu number : ℕ) (tag : Tag) → Wants g cpu (Unmap number) tag → ⊥
 unmap_wants_none g cpu number tag wants = wants_not_unmap g cpu (Unmap number) tag number wants refl

@@ -14,7 +14,11 @@ use Rattle.guest_rules.specs.GuestState.{GuestState, processor_at}
 use Rattle.guest_rules.specs.Turns.{file_pages}
 use Rattle.guest_rules.specs.Fit.{Fit}
 use Rattle.guest_rules.specs.Alone.{pages_to_tear, turns_of}
-use Rattle.guest_rules.proofs.Cases.TurnCases.{TurnCase, was_idle, was_refused, was_mapped, was_mapped_own, waited, missed, missed_rehinted, was_begun, was_gone, was_read, was_written, touch_failed, was_resolved, was_loaded, was_stored, entry_failed, fill_failed, was_filled, was_pinned, was_sync, SyncCase, not_there, sync_waited, sync_missed, sync_gone, was_clean, was_locked, write_missed, was_written_back, write_failed, was_room, RoomCase, room_gone, was_cleared, was_locked_to_go, room_missed, room_waited, had_no_page, page_out_missed, was_paged_out, page_out_failed, was_unmapped, was_torn, was_torn_own, Has, Starts, Wants}
+use Rattle.guest_rules.proofs.Cases.TurnCases.{TurnCase, was_idle, was_refused, was_mapped, was_mapped_own, waited, missed, missed_rehinted, was_begun, was_gone, was_read, was_written}
+use Rattle.guest_rules.proofs.Cases.TurnCases.{touch_failed, was_resolved, was_loaded, was_stored, entry_failed, fill_failed, was_filled, was_pinned, was_sync, SyncCase, not_there}
+use Rattle.guest_rules.proofs.Cases.TurnCases.{sync_waited, sync_missed, sync_gone, was_clean, was_locked, write_missed, was_written_back, write_failed, was_room, RoomCase, room_gone}
+use Rattle.guest_rules.proofs.Cases.TurnCases.{was_cleared, was_locked_to_go, room_missed, room_waited, had_no_page, page_out_missed, was_paged_out, page_out_failed, was_unmapped, was_torn}
+use Rattle.guest_rules.proofs.Cases.TurnCases.{was_torn_own, Has, Starts, Wants}
 use Rattle.guest_rules.proofs.Causes.CauseForms.{phase_after, fills_no_unmap, pages_out_no_unmap}
 use Rattle.guest_rules.proofs.Causes.TakenOff.{tearing_has}
 use Rattle.guest_rules.proofs.Bound.Ranks.{wants_not_unmap}

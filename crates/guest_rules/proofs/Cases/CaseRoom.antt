@@ -21,7 +21,8 @@ use Rattle.guest_rules.specs.MakeRoom.{can_go, first_to_go, first_locked, none_g
 use Rattle.guest_rules.specs.GuestState.{GuestState, processor_at, with_parts, with_phase}
 use Rattle.guest_rules.specs.Turns.{room_next, room_turn, fill_next, page_out_turn}
 use Rattle.guest_rules.specs.Fit.{FitAt}
-use Rattle.guest_rules.proofs.Cases.TurnCases.{RoomCase, room_gone, was_cleared, was_locked_to_go, room_missed, room_waited, had_no_page, page_out_missed, was_paged_out, page_out_failed, Has, HasPage, SeeksRoom, Goes, PagesOut}
+use Rattle.guest_rules.proofs.Cases.TurnCases.{RoomCase, room_gone, was_cleared, was_locked_to_go, room_missed, room_waited}
+use Rattle.guest_rules.proofs.Cases.TurnCases.{had_no_page, page_out_missed, was_paged_out, page_out_failed, Has, HasPage, SeeksRoom, Goes, PagesOut}
 use Rattle.guest_rules.proofs.Cases.FirstPage.{first_from-Some, first_locked-owned, can_go-parts}
 use Rattle.guest_rules.proofs.Rows.RoomPage.{GoOutcome, seen_go}
 use Rattle.guest_rules.proofs.Rows.WriteBack.{BackOutcome, seen_write_back}

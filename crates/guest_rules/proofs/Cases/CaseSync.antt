@@ -20,7 +20,8 @@ use Rattle.guest_rules.specs.Syncs.{sync_page, sync_owned, write_back}
 use Rattle.guest_rules.specs.GuestState.{GuestState, processor_at, with_parts, with_phase}
 use Rattle.guest_rules.specs.Turns.{file_pages, passed, sync_turn, sync_found, sync_next, write_back_turn, written_next}
 use Rattle.guest_rules.specs.Fit.{FitAt, IsWriting}
-use Rattle.guest_rules.proofs.Cases.TurnCases.{SyncCase, not_there, sync_waited, sync_missed, sync_gone, was_clean, was_locked, write_missed, was_written_back, write_failed, HasPage, Syncs, WritesBack}
+use Rattle.guest_rules.proofs.Cases.TurnCases.{SyncCase, not_there, sync_waited, sync_missed, sync_gone, was_clean}
+use Rattle.guest_rules.proofs.Cases.TurnCases.{was_locked, write_missed, was_written_back, write_failed, HasPage, Syncs, WritesBack}
 use Rattle.guest_rules.proofs.Cases.WantedTags.{planned-tag}
 use Rattle.guest_rules.proofs.Rows.SyncPage.{LookOutcome, seen_look}
 use Rattle.guest_rules.proofs.Rows.WriteBack.{BackOutcome, seen_write_back}

@@ -21,7 +21,8 @@ use Rattle.guest_rules.specs.Rows.{clear_entry, tear_page, released}
 use Rattle.guest_rules.specs.GuestState.{GuestState, processor_at, with_parts}
 use Rattle.guest_rules.specs.Turns.{mapping_pages, torn_past, torn_next, teardown_entry, teardown_owned, teardown_page, teardown_shown, teardown_in, teardown_turn}
 use Rattle.guest_rules.specs.Fit.{FitAt, IsEntry, IsTearing}
-use Rattle.guest_rules.proofs.Cases.TurnCases.{ShowsPage, Tears, TearsPast, TearCase, had_no_entry, tear_missed, tear_gone, was_cleared_at, HasPage, TearOwnCase, had_no_page_of_its, tear_waited, tear_own_missed, was_torn_off, TurnCase, was_torn, was_torn_own}
+use Rattle.guest_rules.proofs.Cases.TurnCases.{ShowsPage, Tears, TearsPast, TearCase, had_no_entry, tear_missed, tear_gone, was_cleared_at, HasPage}
+use Rattle.guest_rules.proofs.Cases.TurnCases.{TearOwnCase, had_no_page_of_its, tear_waited, tear_own_missed, was_torn_off, TurnCase, was_torn, was_torn_own}
 use Rattle.guest_rules.proofs.Kept.PageFits.{tagged-below}
 use Rattle.guest_rules.proofs.Ready.Ready.{can_be_shown, lost_unlocked, found_page}
 use Rattle.guest_rules.proofs.Kept.FlatTags.{own-is_tag}

@@ -22,7 +22,8 @@ use Rattle.guest_maps.specs.MapsView.{find_slot, free_slot, entry_at, tag_at}
 use Rattle.guest_rules.specs.declared.processor.Phase.{Phase}
 use Rattle.guest_rules.specs.declared.processor.Phase.TheVariants.{Start, Fill, Room as AtRoom, Sync as AtSync, SyncWrite, Teardown}
 use Rattle.guest_rules.specs.GuestState.{GuestState, processor_at}
-use Rattle.guest_rules.specs.Turns.{file_has_bytes, turn, turn_on, turn_in, start_turn, start_refused, start_accepted, start_mapped, start_placed, start_entry, start_at, start_tagged, start_found, start_free, start_locked, hit_turn, map_turn, unmap_turn, refusal_at, refusal_of_unmap, refusal_in, sync_turn, write_back_turn}
+use Rattle.guest_rules.specs.Turns.{file_has_bytes, turn, turn_on, turn_in, start_turn, start_refused, start_accepted, start_mapped, start_placed, start_entry, start_at}
+use Rattle.guest_rules.specs.Turns.{start_tagged, start_found, start_free, start_locked, hit_turn, map_turn, unmap_turn, refusal_at, refusal_of_unmap, refusal_in, sync_turn, write_back_turn}
 use Rattle.guest_rules.specs.Fit.{FitAt}
 use Rattle.guest_rules.proofs.Cases.TurnCases.{TurnCase, was_idle, was_refused, was_mapped, was_mapped_own, waited, Has, Starts, CanBeSet, pin_op, was_sync, was_room, was_unmapped, Syncs}
 use Rattle.guest_rules.proofs.Ready.Ready.{found_page}

@@ -1,5 +1,6 @@
 -- The tag that an accepted command needs a page of.
-use Rattle.std.proofs.Common.{◌≡◌, ◌<◌, ◌≤◌, ◌+◌, ◌*◌, ◌/◌, nat_lt, nat_le, if◌then◌else◌, cond, Bool, true, false, ℕ, zero, suc, List, [], ◌∷◌, map, length, get_or, slice_index_or, Option, Some, None, refl, ap, sym, subst, ◌∙◌, inl, inr, arith}
+use Rattle.std.proofs.Common.{◌≡◌, ◌<◌, ◌≤◌, ◌+◌, ◌*◌, ◌/◌, nat_lt, nat_le, if◌then◌else◌, cond, Bool, true, false, ℕ, zero, suc, List}
+use Rattle.std.proofs.Common.{[], ◌∷◌, map, length, get_or, slice_index_or, Option, Some, None, refl, ap, sym, subst, ◌∙◌, inl, inr, arith}
 use Rattle.std.proofs.lemmas.Bool.{and_parts, cases_lt, ltb-true, leb-true}
 use Rattle.std.proofs.lemmas.List.{length-map, get_or_past}
 use Rattle.cmm_types.specs.declared.page.TheConstants.{PAGE}

@@ -19,7 +19,9 @@ use Rattle.guest_rules.specs.Rows.{with_change, dirtied}
 use Rattle.guest_rules.specs.Stuck.{NeedsFreePage}
 use Rattle.guest_rules.specs.Fit.{Fit}
 use Rattle.guest_rules.specs.Cause.{AnswerCause, IsAccepted}
-use Rattle.guest_rules.proofs.Cases.TurnCases.{TurnCase, was_idle, was_refused, was_mapped, was_mapped_own, waited, missed, missed_rehinted, was_begun, was_gone, was_read, was_written, touch_failed, was_resolved, was_loaded, was_stored, entry_failed, fill_failed, was_filled, was_pinned, pin_op, was_sync, was_room, was_unmapped, was_torn, was_torn_own, Has, Starts, HasPage, HasItsTag, wanted_tag}
+use Rattle.guest_rules.proofs.Cases.TurnCases.{TurnCase, was_idle, was_refused, was_mapped, was_mapped_own, waited, missed, missed_rehinted, was_begun, was_gone}
+use Rattle.guest_rules.proofs.Cases.TurnCases.{was_read, was_written, touch_failed, was_resolved, was_loaded, was_stored, entry_failed, fill_failed, was_filled}
+use Rattle.guest_rules.proofs.Cases.TurnCases.{was_pinned, pin_op, was_sync, was_room, was_unmapped, was_torn, was_torn_own, Has, Starts, HasPage, HasItsTag, wanted_tag}
 use Rattle.guest_rules.proofs.Rows.Values.{may_used}
 use Rattle.guest_rules.proofs.Ready.Ready.{can_be_used}
 use Rattle.guest_rules.proofs.Bound.Ranks.{wants_not_sync, wants_not_unmap}

@@ -19,7 +19,8 @@ use Rattle.guest_maps.specs.declared.slot.Pte.{Pte}
 use Rattle.guest_maps.specs.MapsView.{find_slot, entry_at, tag_at}
 use Rattle.guest_rules.specs.GuestState.{GuestState, entered}
 use Rattle.guest_rules.specs.MakeRoom.{pinned_count, none_goes, room_from, make_room}
-use Rattle.guest_rules.specs.Turns.{turn, turn_on, turn_in, start_turn, start_refused, start_accepted, start_mapped, start_placed, start_entry, start_at, start_tagged, start_found, start_free, room_turn, room_next, refusal_in}
+use Rattle.guest_rules.specs.Turns.{turn, turn_on, turn_in, start_turn, start_refused, start_accepted, start_mapped, start_placed}
+use Rattle.guest_rules.specs.Turns.{start_entry, start_at, start_tagged, start_found, start_free, room_turn, room_next, refusal_in}
 use Rattle.guest_rules.specs.Stuck.{IsStuck, NeedsFreePage}
 use Rattle.guest_rules.specs.Fit.{Fit}
 use Rattle.guest_rules.specs.Cause.{IsAccepted}

@@ -18,7 +18,8 @@ use Rattle.guest_rules.specs.MakeRoom.{first_to_go, first_locked, pinned_count}
 use Rattle.guest_rules.specs.Stuck.{NeedsFreePage}
 use Rattle.guest_rules.specs.Fit.{Fit}
 use Rattle.guest_rules.specs.Cause.{AnswerCause, LacksPage, RoomMoves}
-use Rattle.guest_rules.proofs.Cases.TurnCases.{RoomCase, room_gone, was_cleared, was_locked_to_go, room_missed, room_waited, had_no_page, page_out_missed, was_paged_out, page_out_failed, SeeksRoom, Goes, PagesOut, WrittenBack, IsRehinted}
+use Rattle.guest_rules.proofs.Cases.TurnCases.{RoomCase, room_gone, was_cleared, was_locked_to_go, room_missed, room_waited, had_no_page}
+use Rattle.guest_rules.proofs.Cases.TurnCases.{page_out_missed, was_paged_out, page_out_failed, SeeksRoom, Goes, PagesOut, WrittenBack, IsRehinted}
 use Rattle.guest_rules.proofs.Cases.Stuck.{full-tagged, stuck, pinned_and_others}
 use Rattle.guest_rules.proofs.Kept.LocksKept.{locks_none}
 use Rattle.guest_rules.proofs.Fit.Replies.{refused-same}

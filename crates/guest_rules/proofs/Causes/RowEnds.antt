@@ -24,7 +24,9 @@ use Rattle.guest_rules.specs.declared.outcome.Placed.{Placed}
 use Rattle.guest_rules.specs.declared.outcome.Placed.TheVariants.{Done as PlaceDone, Gone as PlaceGone, Again as PlaceAgain}
 use Rattle.guest_rules.specs.declared.outcome.Synced.{Synced}
 use Rattle.guest_rules.specs.declared.outcome.Synced.TheVariants.{Clean, Locked, Gone as SyncGone, Waits as IsLocked, Again as SyncAgain}
-use Rattle.guest_rules.specs.Rows.{handled, handler, tell, with_change, rehint, make_stable, missed_by, touch_missed, read_page, read_stable, read_touched, write_page, write_stable, write_touched, load_page, load_touched, store_through, store_touched, resolve, resolve_stable, pin_page, pin_stable, clear_entry, clear_stable, tear_page, fill, fill_with, fill_read, fill_from, fill_touched, backing_at, dirtied, mapped, unmapped, pinned, filled}
+use Rattle.guest_rules.specs.Rows.{handled, handler, tell, with_change, rehint, make_stable, missed_by, touch_missed, read_page, read_stable, read_touched, write_page}
+use Rattle.guest_rules.specs.Rows.{write_stable, write_touched, load_page, load_touched, store_through, store_touched, resolve, resolve_stable, pin_page, pin_stable}
+use Rattle.guest_rules.specs.Rows.{clear_entry, clear_stable, tear_page, fill, fill_with, fill_read, fill_from, fill_touched, backing_at, dirtied, mapped, unmapped, pinned, filled}
 use Rattle.guest_rules.specs.Syncs.{sync_page, sync_owned, sync_taken, sync_known, sync_stable, unlocked, cleaned, write_back, back_touched, back_fetched, back_written, stay_dirty}
 use Rattle.guest_rules.proofs.Causes.Ends.{Ends, ends_bind, after_take, after_touch}
 

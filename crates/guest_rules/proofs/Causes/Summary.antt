@@ -11,7 +11,11 @@ use Rattle.guest_rules.specs.declared.parts.Parts.{Parts}
 use Rattle.guest_rules.specs.GuestState.{GuestState, with_phase, entered, answered, next_command}
 use Rattle.guest_rules.specs.Rows.{handled, freed, released}
 use Rattle.guest_rules.specs.Cause.{NoWrongDiscard}
-use Rattle.guest_rules.proofs.Cases.TurnCases.{TurnCase, was_idle, was_refused, was_mapped, was_mapped_own, waited, missed, missed_rehinted, was_begun, was_gone, was_read, was_written, touch_failed, was_resolved, was_loaded, was_stored, entry_failed, fill_failed, was_filled, GivenBack, AllMay, IsRehinted, was_pinned, was_sync, SyncCase, not_there, sync_waited, sync_missed, sync_gone, was_clean, was_locked, write_missed, was_written_back, write_failed, was_unmapped, was_torn, TearCase, had_no_entry, tear_missed, tear_gone, was_cleared_at, was_torn_own, TearOwnCase, had_no_page_of_its, tear_waited, tear_own_missed, was_torn_off, was_room, RoomCase, room_gone, was_cleared, was_locked_to_go, room_missed, room_waited, had_no_page, page_out_missed, was_paged_out, page_out_failed}
+use Rattle.guest_rules.proofs.Cases.TurnCases.{TurnCase, was_idle, was_refused, was_mapped, was_mapped_own, waited, missed, missed_rehinted, was_begun, was_gone, was_read, was_written, touch_failed}
+use Rattle.guest_rules.proofs.Cases.TurnCases.{was_resolved, was_loaded, was_stored, entry_failed, fill_failed, was_filled, GivenBack, AllMay, IsRehinted, was_pinned, was_sync, SyncCase, not_there}
+use Rattle.guest_rules.proofs.Cases.TurnCases.{sync_waited, sync_missed, sync_gone, was_clean, was_locked, write_missed, was_written_back, write_failed, was_unmapped, was_torn, TearCase}
+use Rattle.guest_rules.proofs.Cases.TurnCases.{had_no_entry, tear_missed, tear_gone, was_cleared_at, was_torn_own, TearOwnCase, had_no_page_of_its, tear_waited, tear_own_missed, was_torn_off}
+use Rattle.guest_rules.proofs.Cases.TurnCases.{was_room, RoomCase, room_gone, was_cleared, was_locked_to_go, room_missed, room_waited, had_no_page, page_out_missed, was_paged_out, page_out_failed}
 use Rattle.guest_rules.proofs.Cases.Passed.{HasPassed, goes_on, is_done, has_passed}
 use Rattle.guest_rules.proofs.Cases.TornPast.{tears_on, has_ended}
 use Rattle.guest_rules.proofs.Causes.TornSlots.{IsPast, is_past}

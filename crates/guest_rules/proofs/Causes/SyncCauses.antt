@@ -22,7 +22,8 @@ use Rattle.guest_rules.specs.Turns.{file_pages}
 use Rattle.guest_rules.specs.Stuck.{NeedsFreePage}
 use Rattle.guest_rules.specs.Fit.{Fit}
 use Rattle.guest_rules.specs.Cause.{AnswerCause, IsAccepted, IsLastSynced, SyncMoves, index_of}
-use Rattle.guest_rules.proofs.Cases.TurnCases.{SyncCase, not_there, sync_waited, sync_missed, sync_gone, was_clean, was_locked, write_missed, was_written_back, write_failed, Has, HasPage, Syncs, WritesBack, WrittenBack, IsRehinted}
+use Rattle.guest_rules.proofs.Cases.TurnCases.{SyncCase, not_there, sync_waited, sync_missed, sync_gone, was_clean, was_locked}
+use Rattle.guest_rules.proofs.Cases.TurnCases.{write_missed, was_written_back, write_failed, Has, HasPage, Syncs, WritesBack, WrittenBack, IsRehinted}
 use Rattle.guest_rules.proofs.Kept.Changes.{InfoChange}
 use Rattle.guest_rules.proofs.Kept.RowChanges.{changed_info, change-changed}
 use Rattle.guest_rules.proofs.Fit.StepTold.{is_changed}

@@ -18,7 +18,8 @@ use Rattle.guest_rules.specs.Rows.{handled, freed, released}
 use Rattle.guest_rules.specs.Turns.{mapping_pages}
 use Rattle.guest_rules.specs.Fit.{Fit, IsUntagged}
 use Rattle.guest_rules.specs.Cause.{AnswerCause, HasUnmapped, HasTorn, HasTornDown, TearLeads}
-use Rattle.guest_rules.proofs.Cases.TurnCases.{TearCase, had_no_entry, tear_missed, tear_gone, was_cleared_at, TearOwnCase, had_no_page_of_its, tear_waited, tear_own_missed, was_torn_off, Has, Starts, Tears, TearsFile, TearsOwn}
+use Rattle.guest_rules.proofs.Cases.TurnCases.{TearCase, had_no_entry, tear_missed, tear_gone, was_cleared_at, TearOwnCase}
+use Rattle.guest_rules.proofs.Cases.TurnCases.{had_no_page_of_its, tear_waited, tear_own_missed, was_torn_off, Has, Starts, Tears, TearsFile, TearsOwn}
 use Rattle.guest_rules.proofs.Cases.TornPast.{tears_on, has_ended}
 use Rattle.guest_rules.proofs.Kept.LocksKept.{locks_none}
 use Rattle.guest_rules.proofs.Kept.SlotsKept.{slot-below}

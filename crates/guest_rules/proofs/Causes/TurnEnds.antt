@@ -38,10 +38,14 @@ use Rattle.guest_rules.specs.GuestState.{GuestState, processor_at, with_parts, w
 use Rattle.guest_rules.specs.Rows.{read_page, write_page, load_page, store_through, resolve, fill, pin_page, clear_entry, tear_page, released}
 use Rattle.guest_rules.specs.Syncs.{sync_page, write_back}
 use Rattle.guest_rules.specs.MakeRoom.{make_room}
-use Rattle.guest_rules.specs.Turns.{file_pages, passed, refusal_in, begin_turn, missed_next, read_next, done_next, resolve_next, resolve_in, pin_next, pin_in, use_turn, hit_turn, room_next, room_turn, start_free, start_locked, start_found, start_tagged, start_at, start_entry, start_mapped, start_placed, map_turn, unmap_turn, torn_past, torn_next, teardown_entry, teardown_owned, teardown_page, teardown_shown, teardown_in, teardown_turn, sync_next, sync_found, sync_turn, written_next, write_back_turn, start_accepted, start_refused, start_turn, fill_next, fill_turn, page_out_turn, turn_in, turn_on, turn}
+use Rattle.guest_rules.specs.Turns.{file_pages, passed, refusal_in, begin_turn, missed_next, read_next, done_next, resolve_next, resolve_in, pin_next, pin_in, use_turn, hit_turn}
+use Rattle.guest_rules.specs.Turns.{room_next, room_turn, start_free, start_locked, start_found, start_tagged, start_at, start_entry, start_mapped, start_placed, map_turn}
+use Rattle.guest_rules.specs.Turns.{unmap_turn, torn_past, torn_next, teardown_entry, teardown_owned, teardown_page, teardown_shown, teardown_in, teardown_turn, sync_next}
+use Rattle.guest_rules.specs.Turns.{sync_found, sync_turn, written_next, write_back_turn, start_accepted, start_refused, start_turn, fill_next, fill_turn, page_out_turn, turn_in, turn_on, turn}
 use Rattle.guest_rules.specs.Again.{WhyAgain}
 use Rattle.guest_rules.proofs.Causes.Ends.{Ends, ends_bind, ends_map, missed_in}
-use Rattle.guest_rules.proofs.Causes.RowEnds.{MissNames, PlacedNames, FilledNames, SyncedNames, read_ends, write_ends, load_ends, store_ends, resolve_ends, pin_ends, clear_ends, tear_ends, fill_ends, sync_ends, write_back_ends}
+use Rattle.guest_rules.proofs.Causes.RowEnds.{MissNames, PlacedNames, FilledNames, SyncedNames, read_ends, write_ends, load_ends}
+use Rattle.guest_rules.proofs.Causes.RowEnds.{store_ends, resolve_ends, pin_ends, clear_ends, tear_ends, fill_ends, sync_ends, write_back_ends}
 use Rattle.guest_rules.proofs.Causes.RoomEnds.{RoomNames, make_room_ends}
 
 -- an answer `Again` is that of the call that missed last

@@ -23,7 +23,8 @@ use Rattle.guest_rules.specs.GuestState.{GuestState, processor_at, with_parts}
 use Rattle.guest_rules.specs.Rows.{freed, handled, unmapped, released}
 use Rattle.guest_rules.specs.Turns.{mapping_pages}
 use Rattle.guest_rules.specs.Fit.{FitAt, Fit, IsTearing, IsOwnPage, IsUsedTag, IsUntagged}
-use Rattle.guest_rules.proofs.Cases.TurnCases.{HasPage, TearsPast, TearsFile, TearsOwn, TearCase, had_no_entry, tear_missed, tear_gone, was_cleared_at, TearOwnCase, had_no_page_of_its, tear_waited, tear_own_missed, was_torn_off}
+use Rattle.guest_rules.proofs.Cases.TurnCases.{HasPage, TearsPast, TearsFile, TearsOwn, TearCase, had_no_entry, tear_missed, tear_gone}
+use Rattle.guest_rules.proofs.Cases.TurnCases.{was_cleared_at, TearOwnCase, had_no_page_of_its, tear_waited, tear_own_missed, was_torn_off}
 use Rattle.guest_rules.proofs.Cases.MapsFound.{tag_at-place}
 use Rattle.guest_rules.proofs.Cases.TornPast.{HasTornPast, has_torn_past}
 use Rattle.guest_rules.proofs.Kept.RowChanges.{handled-maps, freed-maps, freed-cache, maps-unmapped, maps-changed}

@@ -16,7 +16,9 @@ use Rattle.guest_rules.specs.Rows.{freed}
 use Rattle.guest_rules.specs.Turns.{begun}
 use Rattle.guest_rules.specs.Fit.{Fit, NeedsPage}
 use Rattle.guest_rules.specs.Answers.{FailCause}
-use Rattle.guest_rules.proofs.Cases.TurnCases.{GivenBack, Has, Maps, TurnCase, was_idle, was_refused, was_mapped, waited, missed, missed_rehinted, was_begun, was_gone, was_read, was_written, touch_failed, was_resolved, was_loaded, was_stored, entry_failed, fill_failed, was_filled, was_pinned, was_sync, was_room, was_mapped_own, was_unmapped, was_torn, was_torn_own}
+use Rattle.guest_rules.proofs.Cases.TurnCases.{GivenBack, Has, Maps, TurnCase, was_idle, was_refused, was_mapped, waited, missed, missed_rehinted, was_begun, was_gone, was_read, was_written}
+use Rattle.guest_rules.proofs.Cases.TurnCases.{touch_failed, was_resolved, was_loaded, was_stored, entry_failed, fill_failed, was_filled, was_pinned, was_sync, was_room, was_mapped_own, was_unmapped}
+use Rattle.guest_rules.proofs.Cases.TurnCases.{was_torn, was_torn_own}
 use Rattle.guest_rules.proofs.Fit.FitMay.{FitAt-may}
 use Rattle.guest_rules.proofs.Fit.StepBegun.{Fit-begun}
 use Rattle.guest_rules.proofs.Fit.StepFreed.{Fit-gone, Fit-given_up}

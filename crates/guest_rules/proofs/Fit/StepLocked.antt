@@ -23,7 +23,8 @@ use Rattle.guest_rules.proofs.Cases.TurnCases.{GivenBack, HasPage, ShowsPage, Is
 use Rattle.guest_rules.proofs.Rows.ValueLaws.{may-faults}
 use Rattle.guest_rules.proofs.Kept.Changes.{InfoChange, InfoChange-trans, PhaseChange, teardown_of, change-with_phase}
 use Rattle.guest_rules.proofs.Kept.RowChanges.{OnlyPages, changed_info, change-changed, only-changed, maps-changed}
-use Rattle.guest_rules.proofs.Kept.SyncTables.{locked_info, unlocked_info, cleaned_info, change-locked, change-unlocked, change-cleaned, only-locked, only-unlocked, only-cleaned, maps-locked, maps-unlocked, maps-cleaned}
+use Rattle.guest_rules.proofs.Kept.SyncTables.{locked_info, unlocked_info, cleaned_info, change-locked, change-unlocked}
+use Rattle.guest_rules.proofs.Kept.SyncTables.{change-cleaned, only-locked, only-unlocked, only-cleaned, maps-locked, maps-unlocked, maps-cleaned}
 use Rattle.guest_rules.proofs.Kept.PageFits.{PageFits, PageFits-may}
 use Rattle.guest_rules.proofs.Kept.Currents.{current_bytes-may}
 use Rattle.guest_rules.proofs.Kept.PagesKept.{PagesFit-kept}

@@ -20,7 +20,8 @@ use Rattle.guest_rules.proofs.Rows.ValueLaws.{hint-dirty}
 use Rattle.guest_rules.proofs.Rows.Values.{stable_there}
 use Rattle.guest_rules.proofs.Kept.Changes.{IsTag-same, cases_tag}
 use Rattle.guest_rules.proofs.Kept.PageFits.{IsDirtyOrSlotted, tagged-below}
-use Rattle.guest_rules.proofs.Kept.SwapLaws.{SwapChange, swap_tag, swap-here, swap-others, page_of-swapped, swap_slot-is, swap_slot-nowhere, swap_slot-other, swap_slot-released, backing_of-other, distinct-assigned, distinct-released, kept-slot}
+use Rattle.guest_rules.proofs.Kept.SwapLaws.{SwapChange, swap_tag, swap-here, swap-others, page_of-swapped, swap_slot-is, swap_slot-nowhere}
+use Rattle.guest_rules.proofs.Kept.SwapLaws.{swap_slot-other, swap_slot-released, backing_of-other, distinct-assigned, distinct-released, kept-slot}
 use Rattle.guest_rules.proofs.Kept.SlotsKept.{SlotsFit-kept}
 use Rattle.guest_rules.proofs.Kept.TagsKept.{TagsStand}
 use Rattle.guest_rules.proofs.Kept.FlatTags.{IsFlatTag-same, never_live}

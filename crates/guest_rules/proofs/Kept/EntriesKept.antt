@@ -11,8 +11,10 @@ use Rattle.guest_pages.specs.PagesView.{free_info, info_at}
 use Rattle.guest_maps.specs.declared.slot.Pte.{Pte}
 use Rattle.guest_maps.specs.declared.slot.Slot.{Slot}
 use Rattle.guest_maps.specs.declared.slot.Shown.{Shown}
-use Rattle.guest_maps.specs.MapsView.{MapsView, slot_at, entry_at, place_at, tag_in, tag_at, slot_has_page, stores_to, with_entry, without_entries_of, with_slot, with_slot_mapped, torn, torn_slot, freed_slot}
-use Rattle.guest_maps.specs.Laws.MapsLaws.{entry_place_exact, slots-with_entry, entry_at-with_entry_other, slots-without_entries_of, writers_showing-without_same, writers_showing-without_other, slot_at-with_mapping_other, entries-torn_slot, entry_at-torn_slot}
+use Rattle.guest_maps.specs.MapsView.{MapsView, slot_at, entry_at, place_at, tag_in, tag_at, slot_has_page, stores_to}
+use Rattle.guest_maps.specs.MapsView.{with_entry, without_entries_of, with_slot, with_slot_mapped, torn, torn_slot, freed_slot}
+use Rattle.guest_maps.specs.Laws.MapsLaws.{entry_place_exact, slots-with_entry, entry_at-with_entry_other, slots-without_entries_of}
+use Rattle.guest_maps.specs.Laws.MapsLaws.{writers_showing-without_same, writers_showing-without_other, slot_at-with_mapping_other, entries-torn_slot, entry_at-torn_slot}
 use Rattle.guest_maps.specs.Laws.TornLaws.{same-torn_slot, tag_at-torn_slot, place-torn_slot, entries-freed_slot, slot_at-freed_slot_other}
 use Rattle.guest_rules.specs.declared.parts.Parts.{Parts}
 use Rattle.guest_rules.specs.Rows.{shown_info}

@@ -8,7 +8,8 @@ use Rattle.cmm_types.specs.declared.page.Tag.{Tag}
 use Rattle.cmm_types.specs.Sums.{one_if}
 use Rattle.guest_maps.specs.declared.slot.Pte.{Pte}
 use Rattle.guest_maps.specs.declared.slot.Slot.{Slot}
-use Rattle.guest_maps.specs.MapsView.{MapsView, slot_at, place_at, entry_at, slot_has_page, tag_of, tag_in, tag_at, IsPlace, shows, stores_to, writers_showing, unless_shows, with_entry, without_entries_of}
+use Rattle.guest_maps.specs.MapsView.{MapsView, slot_at, place_at, entry_at, slot_has_page, tag_of, tag_in, tag_at}
+use Rattle.guest_maps.specs.MapsView.{IsPlace, shows, stores_to, writers_showing, unless_shows, with_entry, without_entries_of}
 use Rattle.guest_maps.specs.Laws.MapsLaws.{entry_at-without_entries_of}
 use Rattle.guest_maps.specs.EntryCounts.{count_by-set, count_by-positive}
 use Rattle.guest_rules.proofs.Cases.TurnCases.{CanBeSet}

@@ -21,7 +21,8 @@ use Rattle.guest_maps.specs.Laws.SlotLaws.{own_mapping}
 use Rattle.guest_maps.specs.MapsView.{MapsView, slot_at, find_slot, is_mapping}
 use Rattle.guest_rules.specs.declared.parts.Parts.{Parts}
 use Rattle.guest_rules.specs.GuestState.{GuestState}
-use Rattle.guest_rules.specs.Fit.{SizesFit, SlotsFit, IsLiveOwnPage, IsFlatTag, IsUsedTag, own_pages, own_bytes, flat_of_slot, flat_page, flat_shown, flat_slot, flat_mapping, flat_found, shape_of, pins_of}
+use Rattle.guest_rules.specs.Fit.{SizesFit, SlotsFit, IsLiveOwnPage, IsFlatTag, IsUsedTag, own_pages, own_bytes}
+use Rattle.guest_rules.specs.Fit.{flat_of_slot, flat_page, flat_shown, flat_slot, flat_mapping, flat_found, shape_of, pins_of}
 use Rattle.guest_rules.proofs.Cases.MapsFound.{IsFoundSlot, found_slot}
 use Rattle.guest_rules.proofs.Kept.Changes.{IsTag-same}
 use Rattle.guest_rules.proofs.Kept.PinLaws.{length-pins_of}

@@ -1,6 +1,7 @@
 -- The mapping slots stay fit: where they are the same, where a file is mapped in a free one, where a page is pinned or unpinned, where a
 -- mapping ends, and where its slot is free again.
-use Rattle.std.proofs.Common.{◌≡◌, ◌≢◌, ◌<◌, ◌≤◌, ◌+◌, ◌-◌, ℕ, Bool, true, false, cond, List, length, slice_index_or, Option, Some, None, is_some, refl, ap, sym, ◌∙◌, inl, inr, position, nat_lt, arith}
+use Rattle.std.proofs.Common.{◌≡◌, ◌≢◌, ◌<◌, ◌≤◌, ◌+◌, ◌-◌, ℕ, Bool, true, false, cond, List, length}
+use Rattle.std.proofs.Common.{slice_index_or, Option, Some, None, is_some, refl, ap, sym, ◌∙◌, inl, inr, position, nat_lt, arith}
 use Rattle.std.specs.FinMap as finite
 use Rattle.std.proofs.lemmas.Bool.{cases_eq, cases_lt, false_from_ne_true, ltb-true}
 use Rattle.std.proofs.lemmas.Bool.Decides.{nat_tests}
@@ -18,11 +19,15 @@ use Rattle.guest_maps.specs.declared.slot.Slot.{Slot}
 use Rattle.guest_cache.specs.CacheView.{CacheView}
 use Rattle.guest_maps.specs.declared.slot.Shown.{Shown}
 use Rattle.guest_maps.specs.declared.slot.Shown.TheVariants.{File as OfFile, Anon as OfItsOwn}
-use Rattle.guest_maps.specs.MapsView.{MapsView, IsPlace, slot_at, find_slot, free_slot, live_slots, is_live_slot, is_mapping, slot_has_page, place_at, pinned_at, new_mapping, torn, with_slot_mapped, torn_slot, freed_slot}
+use Rattle.guest_maps.specs.MapsView.{MapsView, IsPlace, slot_at, find_slot, free_slot, live_slots, is_live_slot, is_mapping}
+use Rattle.guest_maps.specs.MapsView.{slot_has_page, place_at, pinned_at, new_mapping, torn, with_slot_mapped, torn_slot, freed_slot}
 use Rattle.guest_maps.specs.FirstPlace.{position_only}
 use Rattle.guest_maps.specs.Laws.SlotLaws.{own_mapping, other_mapping, mapping_is}
-use Rattle.guest_maps.specs.Laws.MapsLaws.{IsPlace-from, free_slot-is, find_slot-is, find_slot-none, length-with_mapping, entries-with_mapping, pinned-with_mapping, pages-with_mapping, slot_at-with_mapping_same, slot_at-with_mapping_other, find_slot-with_mapping_other, live_slots-with_mapping, length-torn_slot, entries-torn_slot, slot_at-torn_slot_same, length-freed_slot}
-use Rattle.guest_maps.specs.Laws.TornLaws.{pinned-torn_slot, pages-torn_slot, slot_at-torn_slot_other, place-torn_slot, find_slot-torn_slot_same, find_slot-torn_slot_other, live_slots-torn_slot, entries-freed_slot, pinned-freed_slot, pages-freed_slot, slot_at-freed_slot_same, slot_at-freed_slot_other, find_slot-freed_slot, live_slots-freed_slot}
+use Rattle.guest_maps.specs.Laws.MapsLaws.{IsPlace-from, free_slot-is, find_slot-is, find_slot-none, length-with_mapping, entries-with_mapping, pinned-with_mapping, pages-with_mapping}
+use Rattle.guest_maps.specs.Laws.MapsLaws.{slot_at-with_mapping_same, slot_at-with_mapping_other, find_slot-with_mapping_other, live_slots-with_mapping, length-torn_slot, entries-torn_slot}
+use Rattle.guest_maps.specs.Laws.MapsLaws.{slot_at-torn_slot_same, length-freed_slot}
+use Rattle.guest_maps.specs.Laws.TornLaws.{pinned-torn_slot, pages-torn_slot, slot_at-torn_slot_other, place-torn_slot, find_slot-torn_slot_same, find_slot-torn_slot_other, live_slots-torn_slot}
+use Rattle.guest_maps.specs.Laws.TornLaws.{entries-freed_slot, pinned-freed_slot, pages-freed_slot, slot_at-freed_slot_same, slot_at-freed_slot_other, find_slot-freed_slot, live_slots-freed_slot}
 use Rattle.guest_rules.specs.declared.parts.Parts.{Parts}
 use Rattle.guest_rules.specs.Fit.{SlotsFit, HasShownPages, pins_of, without_bytes, shape_of, flat_shown, flat_slot, flat_mapping, flat_found}
 use Rattle.guest_rules.proofs.Cases.MapsFound.{IsFoundSlot, found_slot}

@@ -1,5 +1,6 @@
 -- Which tag has which swap slot, and what stays where a swap slot is assigned, or isn't any more.
-use Rattle.std.proofs.Common.{◌≡◌, ◌≢◌, ◌<◌, ◌+◌, ◌==◌, ℕ, true, false, List, length, set, sum, slice_index_or, Option, Some, None, refl, ap, sym, ◌∙◌, inl, inr, position, get_or-set_same, get_or-set_other}
+use Rattle.std.proofs.Common.{◌≡◌, ◌≢◌, ◌<◌, ◌+◌, ◌==◌, ℕ, true, false, List, length, set, sum, slice_index_or}
+use Rattle.std.proofs.Common.{Option, Some, None, refl, ap, sym, ◌∙◌, inl, inr, position, get_or-set_same, get_or-set_other}
 use Rattle.std.specs.Prelude.{IsSome}
 use Rattle.std.proofs.lemmas.Bool.{and_parts, eqb-true, cases_eq, false_from_ne_true}
 use Rattle.std.proofs.lemmas.List.Quantifiers.{position-Some}

@@ -1,5 +1,6 @@
 -- The teardowns stay fit: where no mapping that is being torn down changes, where an unmap begins, goes on to the next page, and ends.
-use Rattle.std.proofs.Common.{◌≡◌, ◌≢◌, ◌<◌, ◌≤◌, ◌+◌, ℕ, Bool, true, false, List, length, get_or, set, slice_index_or, Option, Some, None, refl, ap, sym, ◌∙◌, inl, inr, subst, arith, length-set, get_or-set_same, get_or-set_other}
+use Rattle.std.proofs.Common.{◌≡◌, ◌≢◌, ◌<◌, ◌≤◌, ◌+◌, ℕ, Bool, true, false, List, length, get_or, set, slice_index_or, Option}
+use Rattle.std.proofs.Common.{Some, None, refl, ap, sym, ◌∙◌, inl, inr, subst, arith, length-set, get_or-set_same, get_or-set_other}
 use Rattle.std.proofs.lemmas.Bool.{cases_eq}
 use Rattle.cmm_types.specs.declared.command.TheConstants.{MAX_MAPPING_PAGES}
 use Rattle.cmm_types.specs.declared.command.Op.TheVariants.{Sync, Unmap}
@@ -13,7 +14,9 @@ use Rattle.guest_maps.specs.declared.slot.Pte.{Pte}
 use Rattle.guest_maps.specs.declared.slot.Shown.{Shown}
 use Rattle.guest_maps.specs.declared.slot.Slot.{Slot}
 use Rattle.guest_maps.specs.MapsView.{MapsView, slot_at, place_at, entry_at, pinned_at, unless_shows, torn, with_entry, without_entries_of, with_slot_mapped, torn_slot, freed_slot}
-use Rattle.guest_maps.specs.Laws.MapsLaws.{entry_places_differ, slots-with_entry, pinned-with_entry, entry_at-with_entry_other, slots-without_entries_of, pinned-without_entries_of, entry_at-without_entries_of, slot_at-with_mapping_same, slot_at-with_mapping_other, entries-with_mapping, pinned-with_mapping, slot_at-torn_slot_same, entry_at-torn_slot}
+use Rattle.guest_maps.specs.Laws.MapsLaws.{entry_places_differ, slots-with_entry, pinned-with_entry, entry_at-with_entry_other, slots-without_entries_of, pinned-without_entries_of}
+use Rattle.guest_maps.specs.Laws.MapsLaws.{entry_at-without_entries_of, slot_at-with_mapping_same, slot_at-with_mapping_other, entries-with_mapping, pinned-with_mapping, slot_at-torn_slot_same}
+use Rattle.guest_maps.specs.Laws.MapsLaws.{entry_at-torn_slot}
 use Rattle.guest_maps.specs.Laws.TornLaws.{pinned-torn_slot, slot_at-torn_slot_other, entries-freed_slot, pinned-freed_slot, slot_at-freed_slot_same, slot_at-freed_slot_other}
 use Rattle.guest_rules.specs.declared.processor.Phase.{Phase}
 use Rattle.guest_rules.specs.declared.processor.Phase.TheVariants.{Start, Fill, Room as AtRoom, Sync as AtSync, SyncWrite, Teardown}

@@ -29,14 +29,18 @@ use Rattle.guest_rules.specs.declared.outcome.Placed.TheVariants.{Done as PlaceD
 use Rattle.guest_rules.specs.declared.outcome.Synced.{Synced}
 use Rattle.guest_rules.specs.declared.outcome.Synced.TheVariants.{Clean, Locked, Gone as SyncGone, Waits, Again as SyncAgain}
 use Rattle.guest_rules.specs.Hint.{hint}
-use Rattle.guest_rules.specs.Rows.{freed, handled, handler, rehint, tell, make_stable, read_page, write_page, load_page, store_through, pinned, pin_page, pins_after, mapped, resolve, unmapped, clear_entry, released, tear_page, filled, fill, backing_at, with_change}
+use Rattle.guest_rules.specs.Rows.{freed, handled, handler, rehint, tell, make_stable, read_page, write_page, load_page, store_through, pinned}
+use Rattle.guest_rules.specs.Rows.{pin_page, pins_after, mapped, resolve, unmapped, clear_entry, released, tear_page, filled, fill, backing_at, with_change}
 use Rattle.guest_rules.specs.Syncs.{locked, unlocked, cleaned, sync_page, sync_owned, write_back}
 use Rattle.guest_rules.specs.Calls.{CanTear}
-use Rattle.guest_rules.specs.Answers.{HasTag, CanBeTold, HasBeenFilled, IsToBeFilled, IsToBeWritten, IsFree, IsHandled, WasDiscarded, MayBeDirty, IsHinted, IsRetold, StableAnswer, MissedAnswer, EntryMissed, ReadAnswer, WriteAnswer, LoadAnswer, StoreAnswer, PinAnswer, ResolveAnswer, ClearAnswer, TearAnswer, FillAnswer, LookAnswer, SyncAnswer, IsUnlocked, BackAnswer}
+use Rattle.guest_rules.specs.Answers.{HasTag, CanBeTold, HasBeenFilled, IsToBeFilled, IsToBeWritten, IsFree, IsHandled, WasDiscarded, MayBeDirty, IsHinted, IsRetold, StableAnswer, MissedAnswer}
+use Rattle.guest_rules.specs.Answers.{EntryMissed, ReadAnswer, WriteAnswer, LoadAnswer, StoreAnswer, PinAnswer, ResolveAnswer, ClearAnswer, TearAnswer, FillAnswer, LookAnswer, SyncAnswer, IsUnlocked}
+use Rattle.guest_rules.specs.Answers.{BackAnswer}
 use Rattle.guest_rules.specs.Fit.{IsUntagged}
 use Rattle.guest_rules.proofs.Cases.TurnCases.{IsRehinted}
 use Rattle.guest_rules.proofs.Rows.ValueLaws.{hint-stale}
-use Rattle.guest_rules.proofs.Kept.RowChanges.{change-freed, freed-free, freed-cache, freed-faults, freed-maps, handled-pages, handled-maps, change-changed, change-filled, filled_info, change-unmapped, maps-unmapped}
+use Rattle.guest_rules.proofs.Kept.RowChanges.{change-freed, freed-free, freed-cache, freed-faults, freed-maps, handled-pages}
+use Rattle.guest_rules.proofs.Kept.RowChanges.{handled-maps, change-changed, change-filled, filled_info, change-unmapped, maps-unmapped}
 use Rattle.guest_rules.proofs.Kept.Untagged.{untagged-torn_off}
 use Rattle.guest_rules.proofs.Kept.SyncTables.{change-locked, change-unlocked, change-cleaned}
 use Rattle.guest_rules.proofs.Rows.Held.{Stabled, rehinted_value, seen_handler, seen_make_stable, seen_rehint}

@@ -9,7 +9,9 @@ pub end_teardown-requires-clause-entries : goal.end_teardown-requires-clause-ent
 end_teardown-requires-clause-entries c = bare c.args.self.now.parts.maps c.args.slot c.args.index c.requires.torn (sym c.place.ensures ∙ c.in-None.is)
 
 pub returns-in-None : goal.returns-in-None
-returns-in-None c = record { row = past-last c.args.self.now c.args.cpu c.args.slot c.args.index (sym c.place.ensures ∙ c.in-None.is) ∙ pair _ _ _ _ c.end_teardown.ensures.freed c.end_teardown.ensures.finished }
+returns-in-None c = record {
+  row = past-last c.args.self.now c.args.cpu c.args.slot c.args.index (sym c.place.ensures ∙ c.in-None.is) ∙ pair _ _ _ _ c.end_teardown.ensures.freed c.end_teardown.ensures.finished;
+}
 
 pub returns-in-Some : goal.returns-in-Some
 returns-in-Some c = record { row = past-next c.args.self.now c.args.cpu c.args.slot c.args.index _ (sym c.place.ensures ∙ c.in-Some.is) ∙ pair _ _ _ _ c.set_phase.ensures refl }

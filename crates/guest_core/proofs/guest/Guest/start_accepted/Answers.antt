@@ -1,8 +1,10 @@
 use Rattle.std.proofs.Common.{true, false, refl, ap, subst, ◌∙◌}
 use Rattle.cmm_flat.specs.Legal.{process_of}
 use Rattle.guest_rules.proofs.Cases.TurnCases.{Starts, wanted_tag}
-use Rattle.guest_core.proofs.Commands.{load-looks_up, store-looks_up, pin-looks_up, load-reaches, store-reaches, place-reaches, new-mapping, slot-free, new-own, slot-free_own, sync-begins, unmap-looks_up}
-use Rattle.guest_core.proofs.OtherTurns.{same_run, accepted-read, accepted-write, accepted-map, accepted-map_own, accepted-load, accepted-store, new-fresh, accepted-pin, accepted-unpin, accepted-sync, accepted-unmap}
+use Rattle.guest_core.proofs.Commands.{load-looks_up, store-looks_up, pin-looks_up, load-reaches, store-reaches}
+use Rattle.guest_core.proofs.Commands.{place-reaches, new-mapping, slot-free, new-own, slot-free_own, sync-begins, unmap-looks_up}
+use Rattle.guest_core.proofs.OtherTurns.{same_run, accepted-read, accepted-write, accepted-map, accepted-map_own, accepted-load}
+use Rattle.guest_core.proofs.OtherTurns.{accepted-store, new-fresh, accepted-pin, accepted-unpin, accepted-sync, accepted-unmap}
 use Rattle.guest_core.proofs.guest.Guest.start_accepted.Goals as goal
 
 -- ---- a read, and a write
