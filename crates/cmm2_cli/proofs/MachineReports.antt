@@ -12,9 +12,9 @@ use Rattle.cmm_check.specs.declared.verdict.Verdict.TheVariants.{Accepted}
 use Rattle.cmm_check.specs.Accepted.{IsLegalGuest, AreLegalGuests}
 use Rattle.cmm_check.specs.Verdict.{verdict_of}
 use Rattle.cmm_check.proofs.LegalLaws.{legal_is_accepted, legal_guests}
-use Rattle.cmm_types.specs.NoPlan.{no_plan}
+use Rattle.cmm_types.specs.NoPlan.{no_plan, plan_at}
 use Rattle.cmm_vcpu.specs.KernelState.{HasRun}
-use Rattle.cmm_vcpu.specs.Machines.{MachineState, IsOf, AllHaveRun, kernel_at, plan_at}
+use Rattle.cmm_vcpu.specs.Machines.{MachineState, IsOf, AllHaveRun, kernel_at}
 use Rattle.cmm2_cli.specs.Running.{IsRunReport, AreRunReports, looked_discards, machine_report, machine_reports, no_report}
 
 length-reports : (m : MachineState) → length (machine_reports m) ≡ m.guests

@@ -3,12 +3,13 @@ use Rattle.std.specs.Prelude.{◌≡◌, ℕ, ◌-◌, ◌<◌, ◌≤◌, List,
 use Rattle.std.specs.List.{range_with_len}
 use Rattle.cmm_types.specs.declared.plan.GuestPlan.{GuestPlan}
 use Rattle.cmm_types.specs.declared.plan.Scenario.{Scenario}
+use Rattle.cmm_types.specs.NoPlan.{plan_at}
 use Rattle.cmm_flat.specs.Legal.{Complete}
 use Rattle.cmm_report.specs.Report.{GuestReport, report_of}
 use Rattle.cmm_check.specs.declared.verdict.Verdict.TheVariants.{Accepted}
 use Rattle.cmm_check.specs.Verdict.{verdict_of}
 use Rattle.guest_rules.specs.FailsAsPlanned.{FailsAsPlanned}
-use Rattle.cmm_vcpu.specs.Machines.{MachineState, kernel_at, plan_at, looked_at}
+use Rattle.cmm_vcpu.specs.Machines.{MachineState, kernel_at, looked_at}
 use Rattle.cmm2_cli.specs.declared.status.Status.{Status}
 use Rattle.cmm2_cli.specs.declared.status.Status.TheVariants.{Done}
 use Rattle.cmm2_cli.specs.Outcome.{Answers}

@@ -6,6 +6,7 @@ use Rattle.std.specs.List.{AllByRecursion}
 use Rattle.std.specs.Str.{bytes_eq}
 use Rattle.std.proofs.lemmas.Bool.{and_parts, eqb-true, leb-true, ltb-true, true≢false}
 use Rattle.std.proofs.lemmas.List.Elements.{All-from_recursion}
+use Rattle.std.proofs.lemmas.Option.{same_Some}
 use Rattle.cmm_types.specs.declared.plan.GuestPlan.{GuestPlan}
 use Rattle.cmm_types.specs.declared.plan.Scenario.{Scenario}
 use Rattle.cmm_types.specs.declared.event.Answer.{Answer}
@@ -43,7 +44,7 @@ use Rattle.cmm_check.specs.Heads.{is_run_of, is_answer, event_fits, counts_of, g
 use Rattle.cmm_check.specs.Journal.{LinesWalked, no_lines_walked, can_fail, can_need_page, has_no_page, may_fail, entry_due, reply_with, disk_left, paging_left, after_entry, journal_entry, entry_fits}
 use Rattle.cmm_check.specs.Verdict.{with_line, with_cut, line_that, events_fit, entries_fit, guest_fits, guests_fit, ended, end_fits, schedule_fits, report_fits, verdict_with, verdict_of}
 use Rattle.cmm_check.specs.Accepted.{IsLegalGuest, AreLegalGuests, LegalReport}
-use Rattle.cmm_check.proofs.ReadingLaws.{some_then, some_same, given_holds, same_bytes, cut-parts, without_front-is, long_of-read, numeral_of-read}
+use Rattle.cmm_check.proofs.ReadingLaws.{some_then, given_holds, same_bytes, cut-parts, without_front-is, long_of-read, numeral_of-read}
 use Rattle.cmm_check.proofs.EntryLaws.{cause_of-read, entry_head-read}
 use Rattle.cmm_check.proofs.AnswerLaws.{answer_of-read, event_head-read}
 
@@ -173,7 +174,7 @@ entry_fits-read plan walked text next e =
       entry = journal_entry cpu k op.0 reply.0;
       text_of = is.whole ∙ ap (λ t. front ++ t) says.text_of;
       may_come = record { number = sym due.1; command = due.0; reply = says.allowed };
-      leads = sym (some_same _ next reply.2);
+      leads = sym (same_Some _ next reply.2);
       counted = says.counted;
     }
 
@@ -328,7 +329,7 @@ counts_of-read text counts e =
           ∙ ap (λ t. codes "discards " ++ t) (one.whole ∙ ap (λ t. t ++ (32 ∷ parts.0.1)) d.0 ∙ ap (λ t. decimal discards.0 ++ (32 ∷ t)) tail);
       small = d.1;
     } in
-    subst (λ (p : ℕ × ℕ). AreCounts text p.0 p.1) (some_same _ counts faults.2) made
+    subst (λ (p : ℕ × ℕ). AreCounts text p.0 p.1) (same_Some _ counts faults.2) made
 
 record AreEntries (text : List ℕ) (entries discards faults : ℕ) : Type 0 where
   whole : text ≡ codes "entries " ++ (decimal entries ++ (32 ∷ (codes "discards " ++ (decimal discards ++ (codes " faults " ++ decimal faults)))))
@@ -349,7 +350,7 @@ guest_counts-read text counts e =
           ∙ ap (λ t. codes "entries " ++ t) (one.whole ∙ ap (λ t. t ++ (32 ∷ parts.0.1)) n.0 ∙ ap (λ t. decimal entries.0 ++ (32 ∷ t)) is.whole);
       small = is.small;
     } in
-    subst (λ (p : ℕ × (ℕ × ℕ)). AreEntries text p.0 p.1.0 p.1.1) (some_same _ counts rest.2) made
+    subst (λ (p : ℕ × (ℕ × ℕ)). AreEntries text p.0 p.1.0 p.1.1) (same_Some _ counts rest.2) made
 
 -- the line of a guest without its line feed
 abbrev pub guest_words : ℕ → ℕ → ℕ → ℕ → List ℕ
@@ -376,7 +377,7 @@ guest_head-read line head e =
           ∙ sym (guest_parts (codes "guest ") (decimal guest.0) (codes " entries ") (decimal rest.0.0) (codes " discards ") (decimal rest.0.1.0) (codes " faults ") (decimal rest.0.1.1));
       small = is.small;
     } in
-    subst (λ (p : ℕ × (ℕ × (ℕ × ℕ))). IsGuestHead line p.0 p.1.0 p.1.1.0 p.1.1.1) (some_same _ head rest.2) made
+    subst (λ (p : ℕ × (ℕ × (ℕ × ℕ))). IsGuestHead line p.0 p.1.0 p.1.1.0 p.1.1.1) (same_Some _ head rest.2) made
 
 -- what the line of a guest says
 record GuestTold (run : Bool) (number : ℕ) (plan : GuestPlan) (line : List ℕ) (entries : ℕ) : Type 0 where
@@ -471,8 +472,8 @@ is_run_of-read text run e = at (bytes_eq text (codes "cmm2-report 1 run")) (byte
   where
     at : (a b : Bool) → bytes_eq text (codes "cmm2-report 1 run") ≡ a → bytes_eq text (codes "cmm2-report 1 replay") ≡ b
         → ◌≡◌ {A = Option Bool} (if a then Some true else if b then Some false else None) (Some run) → line text ≡ head_line run
-    at true b is_run is_replay h = ap line (same_bytes text (codes "cmm2-report 1 run") is_run) ∙ ap head_line (some_same true run h)
-    at false true is_run is_replay h = ap line (same_bytes text (codes "cmm2-report 1 replay") is_replay) ∙ ap head_line (some_same false run h)
+    at true b is_run is_replay h = ap line (same_bytes text (codes "cmm2-report 1 run") is_run) ∙ ap head_line (same_Some true run h)
+    at false true is_run is_replay h = ap line (same_bytes text (codes "cmm2-report 1 replay") is_replay) ∙ ap head_line (same_Some false run h)
     at false false is_run is_replay h = cc h
 
 ended-read : (text rest : List ℕ) → ◌≡◌ {A = Result (List ℕ) (List ℕ)} (ended text) (Ok rest) → text ≡ []

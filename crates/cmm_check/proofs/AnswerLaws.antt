@@ -5,6 +5,7 @@ use Rattle.std.specs.Option.{option_or}
 use Rattle.std.specs.List.{AllByRecursion}
 use Rattle.std.specs.Str.{bytes_eq}
 use Rattle.std.proofs.lemmas.List.{append-nil}
+use Rattle.std.proofs.lemmas.Option.{same_Some}
 use Rattle.cmm_types.specs.declared.turn.Turn.TheVariants.{Moved, Finished, Waits, Again, Idle}
 use Rattle.cmm_types.specs.declared.turn.Alone.TheVariants.{Finished as AloneFinished, Waits as AloneWaits, Idle as AloneIdle}
 use Rattle.cmm_types.specs.declared.event.Answer.{Answer}
@@ -15,7 +16,7 @@ use Rattle.cmm_report.proofs.Splits.{IsFree-decimal}
 use Rattle.cmm_check.specs.Reading.{cut, without_front, numeral_of, two_numbers, three_numbers}
 use Rattle.cmm_check.specs.Answers.{AnswerFits, IsEventLine, IsAgain, plain_answers, plain_answer, waits_of, alone_finished_of, alone_waits_of, reclaimed_count}
 use Rattle.cmm_check.specs.Answers.{reclaimed_paging, reclaimed_with, reclaimed_of, answer_of, event_head, numbered_answer}
-use Rattle.cmm_check.proofs.ReadingLaws.{then_some, some_then, some_same, not_some, given_holds, same_bytes, cut-append, cut-parts, cut-none, without_front-append}
+use Rattle.cmm_check.proofs.ReadingLaws.{then_some, some_then, not_some, given_holds, same_bytes, cut-append, cut-parts, cut-none, without_front-append}
 use Rattle.cmm_check.proofs.ReadingLaws.{without_front-is, numeral_of-decimal, numeral_of-read, two_numbers-text, two_numbers-read, three_numbers-text}
 use Rattle.cmm_check.proofs.ReadingLaws.{three_numbers-read, first_named-text, first_named-all}
 
@@ -152,7 +153,7 @@ waits_of-read text answer e =
       fits = (two.first, two.second);
       told = λ h. h;
     } in
-    subst (Tells text) (some_same _ answer both.2) made
+    subst (Tells text) (same_Some _ answer both.2) made
 
 alone_finished_of-read : (text : List ℕ) (answer : Answer) → alone_finished_of text ≡ Some answer → Tells text answer
 unfolding alone_finished_of
@@ -165,7 +166,7 @@ alone_finished_of-read text answer e =
       fits = read.1;
       told = λ h. h;
     } in
-    subst (Tells text) (some_same _ answer turns.2) made
+    subst (Tells text) (same_Some _ answer turns.2) made
 
 alone_waits_of-read : (text : List ℕ) (answer : Answer) → alone_waits_of text ≡ Some answer → Tells text answer
 unfolding alone_waits_of
@@ -179,7 +180,7 @@ alone_waits_of-read text answer e =
       fits = (three.first, three.second, three.third);
       told = λ h. h;
     } in
-    subst (Tells text) (some_same _ answer all.2) made
+    subst (Tells text) (same_Some _ answer all.2) made
 
 -- what stands behind the word `reclaimed`
 record Behind (rest : List ℕ) (answer : Answer) : Type 0 where
@@ -197,7 +198,7 @@ reclaimed_count-read rest answer e =
       fits = read.1;
       told = λ h. h;
     } in
-    subst (Behind rest) (some_same _ answer count.2) made
+    subst (Behind rest) (same_Some _ answer count.2) made
 
 reclaimed_paging-read : (rest digits words : List ℕ) (answer : Answer) → rest ≡ digits ++ (32 ∷ words) → reclaimed_paging digits words ≡ Some answer → Behind rest answer
 unfolding reclaimed_paging
@@ -264,7 +265,7 @@ event_head-read line head e =
       whole = without_front-is (codes "event ") line rest.0 rest.1 ∙ ap (λ t. codes "event " ++ t) (one.whole ∙ ap (λ t. t ++ (32 ∷ parts.0.1)) read.0) ∙ sym (event_parts number.0 parts.0.1);
       small = read.1;
     } in
-    subst (λ (h : ℕ × List ℕ). IsEventHead line h.0 h.1) (some_same _ head number.2) made
+    subst (λ (h : ℕ × List ℕ). IsEventHead line h.0 h.1) (same_Some _ head number.2) made
 
 numbered_answer-text : (line : List ℕ) (number : ℕ) (answer : Answer) → IsEventLine line number answer → (IsAgain answer → ⊥) → numbered_answer line ≡ Some (number, answer)
 unfolding numbered_answer
@@ -285,7 +286,7 @@ numbered_answer-read line event e =
     let says = answer_of-read head.0.1 answer.0 answer.1 in
     let front = codes "event " ++ decimal head.0.0 ++ codes " " in
     let made : IsToldEvent line head.0.0 answer.0 = record { line_of = record { text = is.whole ∙ ap (λ t. front ++ t) says.text_of; event = is.small; answered = says.fits }; told = says.told } in
-    subst (λ (x : ℕ × Answer). IsToldEvent line x.0 x.1) (some_same _ event answer.2) made
+    subst (λ (x : ℕ × Answer). IsToldEvent line x.0 x.1) (same_Some _ event answer.2) made
 
 -- nothing is read where the line is no event's, or says `again`
 pub no_event : (line : List ℕ) → numbered_answer line ≡ None → (number : ℕ) (answer : Answer) → IsEventLine line number answer → IsAgain answer

@@ -1,12 +1,13 @@
 -- The line of an entry is read as what it was written of, both ways.
 use Rattle.std.proofs.Common.{◌≡◌, ◌∙◌, ℕ, suc, ◌+◌, ◌*◌, ◌/◌, ◌%◌, ◌^◌, ◌<◌, ◌≤◌, List, [], ◌∷◌, ◌++◌, Bool, true, false, cond, Option, Some, None, Result, Ok, Err}
-use Rattle.std.proofs.Common.{length, refl, sym, ap, subst, arith, append_assoc}
+use Rattle.std.proofs.Common.{length, refl, sym, ap, subst, arith}
 use Rattle.std.specs.Prelude.{◌&&◌, ◌||◌, nat_le, codes, decimal}
 use Rattle.std.specs.List.{list_any}
 use Rattle.std.specs.Char.{is_ascii_uppercase}
 use Rattle.std.specs.Str.{bytes_eq}
 use Rattle.std.proofs.lemmas.Bool.{and_parts, leb-true, le-leb}
 use Rattle.std.proofs.lemmas.Bool.Decides.{nat_tests}
+use Rattle.std.proofs.lemmas.Option.{same_Some}
 use Rattle.hex.specs.Hex.{IsBytes, hex_digit_value, digit_or_error, value_at, pair_value, decode_pairs, decode_of}
 use Rattle.hex.specs.declared.error.FromHexError.{FromHexError}
 use Rattle.hex.proofs.HexLemmas.{decode_of-even, decode_of-ok}
@@ -20,9 +21,10 @@ use Rattle.cmm_report.specs.Texts.{hex_digit, hex_text, flat_refusal_text, cause
 use Rattle.cmm_report.specs.JournalLines.{CauseFits}
 use Rattle.cmm_report.proofs.Splits.{IsFree-decimal}
 use Rattle.cmm_report.proofs.JournalLaws.{three_parts}
+use Rattle.cmm_report.proofs.ReplyLaws.{counts_text}
 use Rattle.cmm_check.specs.Reading.{cut, without_front, numeral_of, two_numbers, decoded, hex_bytes}
 use Rattle.cmm_check.specs.Entries.{IsReported, IsEntryLine, all_refusals, refusal_named, no_page_of, cause_of, bytes_reply_of, first_reply, reply_of, entry_head, entry_of}
-use Rattle.cmm_check.proofs.ReadingLaws.{then_some, some_then, some_same, not_some, same_bytes, cut-append, cut-parts, without_front-append, without_front-is}
+use Rattle.cmm_check.proofs.ReadingLaws.{then_some, some_then, not_some, same_bytes, cut-append, cut-parts, without_front-append, without_front-is}
 use Rattle.cmm_check.proofs.ReadingLaws.{numeral_of-decimal, numeral_of-read, two_numbers-text, two_numbers-read, first_named-text}
 
 -- ---- bytes
@@ -130,7 +132,7 @@ pub record AreBytes (digits bytes : List ℕ) : Type 0 where
   pub fit : IsBytes bytes
 
 decoded_ok : (r : Result (List ℕ) FromHexError) (bytes : List ℕ) → decoded r ≡ Some bytes → r ≡ Ok bytes
-decoded_ok (Ok x) bytes e = ap Ok (some_same x bytes e)
+decoded_ok (Ok x) bytes e = ap Ok (same_Some x bytes e)
 decoded_ok (Err f) bytes e = cc e
 
 sized : (digits bytes : List ℕ) → list_any is_ascii_uppercase digits ≡ false → (nat_le 1 (length digits) && nat_le (length digits) 128) ≡ true → decode_of digits ≡ Ok bytes → AreBytes digits bytes
@@ -152,12 +154,6 @@ hex_bytes-read digits bytes e = at (list_any is_ascii_uppercase digits) (nat_le 
     at false false lower few h = cc h
 
 -- ---- replies
-
--- the two numbers behind `fail nopage`, with the space between them
-counts_text : (pinned unslotted : ℕ) → cause_text (NoPage pinned unslotted) ≡ codes "fail nopage " ++ (decimal pinned ++ (32 ∷ decimal unslotted))
-counts_text pinned unslotted =
-    append_assoc (codes "fail nopage " ++ decimal pinned) (32 ∷ []) (decimal unslotted)
-    ∙ append_assoc (codes "fail nopage ") (decimal pinned) (32 ∷ decimal unslotted)
 
 no_page_of-text : (p u : ℕ) → CauseFits (NoPage p u) → no_page_of (cause_text (NoPage p u)) ≡ Some (NoPage p u)
 unfolding no_page_of
@@ -187,7 +183,7 @@ no_page_of-read text cause e =
       text_of = front ∙ ap (λ t. codes "fail nopage " ++ t) two.text_of ∙ sym (counts_text both.0.0 both.0.1);
       fits = (two.first, two.second);
     } in
-    subst (IsCauseText text) (some_same _ cause both.2) made
+    subst (IsCauseText text) (same_Some _ cause both.2) made
 
 pub cause_of-read : (text : List ℕ) (cause : Cause) → cause_of text ≡ Some cause → IsCauseText text cause
 unfolding cause_of
@@ -195,8 +191,8 @@ cause_of-read text cause e = at (bytes_eq text (codes "fail disk")) (bytes_eq te
   where
     at : (a b : Bool) → bytes_eq text (codes "fail disk") ≡ a → bytes_eq text (codes "fail paging") ≡ b
         → cond a (Some Disk) (cond b (Some Paging) (no_page_of text)) ≡ Some cause → IsCauseText text cause
-    at true b is_disk is_paging h = subst (IsCauseText text) (some_same Disk cause h) (record { text_of = same_bytes text (codes "fail disk") is_disk; fits = tt })
-    at false true is_disk is_paging h = subst (IsCauseText text) (some_same Paging cause h) (record { text_of = same_bytes text (codes "fail paging") is_paging; fits = tt })
+    at true b is_disk is_paging h = subst (IsCauseText text) (same_Some Disk cause h) (record { text_of = same_bytes text (codes "fail disk") is_disk; fits = tt })
+    at false true is_disk is_paging h = subst (IsCauseText text) (same_Some Paging cause h) (record { text_of = same_bytes text (codes "fail paging") is_paging; fits = tt })
     at false false is_disk is_paging h = no_page_of-read text cause h
 
 bytes_reply_of-text : (bytes : List ℕ) → IsReported (Bytes bytes) → bytes_reply_of (reply_text (Bytes bytes)) ≡ Some (Bytes bytes)
@@ -272,7 +268,7 @@ bytes_reply_of-read text reply e =
       text_of = without_front-is (codes "ok ") text digits.0 digits.1 ∙ ap (λ t. codes "ok " ++ t) are.text;
       reported = (are.some, are.few, are.fit);
     } in
-    subst (IsReplyText text) (some_same _ reply bytes.2) made
+    subst (IsReplyText text) (same_Some _ reply bytes.2) made
 
 refusal_named-read : (text : List ℕ) (refusal : FlatRefusal) → refusal_named text ≡ Some refusal → text ≡ flat_refusal_text refusal
 unfolding refusal_named
@@ -284,11 +280,11 @@ reply_of-read text reply e = at (bytes_eq text (codes "ok")) (cause_of text) (re
   where
     at : (b : Bool) (c : Option Cause) (r : Option FlatRefusal) → bytes_eq text (codes "ok") ≡ b → cause_of text ≡ c → refusal_named text ≡ r
         → cond b (Some Done) (first_reply c r (bytes_reply_of text)) ≡ Some reply → IsReplyText text reply
-    at true c r is_ok caused named h = subst (IsReplyText text) (some_same Done reply h) (record { text_of = same_bytes text (codes "ok") is_ok; reported = tt })
+    at true c r is_ok caused named h = subst (IsReplyText text) (same_Some Done reply h) (record { text_of = same_bytes text (codes "ok") is_ok; reported = tt })
     at false (Some cause) r is_ok caused named h =
         let read = cause_of-read text cause caused in
-        subst (IsReplyText text) (some_same (Fail cause) reply h) (record { text_of = read.text_of; reported = read.fits })
-    at false None (Some refusal) is_ok caused named h = subst (IsReplyText text) (some_same (Refused refusal) reply h) (record { text_of = refusal_named-read text refusal named; reported = tt })
+        subst (IsReplyText text) (same_Some (Fail cause) reply h) (record { text_of = read.text_of; reported = read.fits })
+    at false None (Some refusal) is_ok caused named h = subst (IsReplyText text) (same_Some (Refused refusal) reply h) (record { text_of = refusal_named-read text refusal named; reported = tt })
     at false None None is_ok caused named h = bytes_reply_of-read text reply h
 
 -- ---- entries
@@ -320,7 +316,7 @@ entry_head-read line head e =
     let text : line ≡ decimal cpu.0 ++ (32 ∷ (decimal k.0 ++ (32 ∷ second.0.1))) =
     one.whole ∙ ap (λ t. t ++ (32 ∷ first.0.1)) a.0 ∙ ap (λ t. decimal cpu.0 ++ (32 ∷ t)) (two.whole ∙ ap (λ t. t ++ (32 ∷ second.0.1)) b.0) in
     let made : IsHead line cpu.0 k.0 second.0.1 = record { whole = text ∙ sym (three_parts (decimal cpu.0) (decimal k.0) second.0.1); small_cpu = a.1; small_k = b.1 } in
-    subst (λ (h : ℕ × (ℕ × List ℕ)). IsHead line h.0 h.1.0 h.1.1) (some_same _ head k.2) made
+    subst (λ (h : ℕ × (ℕ × List ℕ)). IsHead line h.0 h.1.0 h.1.1) (same_Some _ head k.2) made
 
 pub entry_of-text : (line : List ℕ) (cpu k : ℕ) (reply : Reply) → IsEntryLine line cpu k reply → entry_of line ≡ Some (cpu, (k, reply))
 unfolding entry_of
@@ -337,7 +333,7 @@ entry_of-read line entry e =
     let says = reply_of-read head.0.1.1 reply.0 reply.1 in
     let front = decimal head.0.0 ++ codes " " ++ decimal head.0.1.0 ++ codes " " in
     let made : IsEntryLine line head.0.0 head.0.1.0 reply.0 = record { text = is.whole ∙ ap (λ t. front ++ t) says.text_of; processor = is.small_cpu; command = is.small_k; replied = says.reported } in
-    subst (λ (x : ℕ × (ℕ × Reply)). IsEntryLine line x.0 x.1.0 x.1.1) (some_same _ entry reply.2) made
+    subst (λ (x : ℕ × (ℕ × Reply)). IsEntryLine line x.0 x.1.0 x.1.1) (same_Some _ entry reply.2) made
 
 -- nothing is read where the line is no entry's
 pub no_entry : (line : List ℕ) → entry_of line ≡ None → (cpu k : ℕ) (reply : Reply) → IsEntryLine line cpu k reply → ⊥

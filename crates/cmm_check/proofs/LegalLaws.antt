@@ -34,7 +34,7 @@ use Rattle.cmm_report.specs.Report.{GuestReport, events_text, journal_text, gues
 use Rattle.cmm_report.specs.JournalLines.{ReplyFits, EntryFits, JournalFits}
 use Rattle.cmm_report.proofs.Splits.{IsFree, IsFree-decimal}
 use Rattle.cmm_report.proofs.JournalLaws.{unended, IsFree-unended}
-use Rattle.cmm_report.proofs.ReportLaws.{head_text, event_text, free_head, free_event, free_guest}
+use Rattle.cmm_report.proofs.ReportLaws.{head_text, event_text, free_head, free_event, free_guest, joined_head}
 use Rattle.cmm_scenario.specs.Outcome.{◌>>=◌}
 use Rattle.cmm_check.specs.declared.verdict.Verdict.TheVariants.{Accepted}
 use Rattle.cmm_check.specs.Reading.{given, cut, without_front}
@@ -329,10 +329,6 @@ unfolding is_run_of
 is_run_of-text true = refl
 is_run_of-text false = refl
 
-first_line : (run : Bool) → line (head_text run) ≡ head_line run
-first_line true = refl
-first_line false = refl
-
 end_fits-text : ◌≡◌ {A = Result (List ℕ) (List ℕ)} (end_fits end_line) (Ok [])
 unfolding end_fits line_that end_of cut
 end_fits-text = refl
@@ -354,7 +350,7 @@ report_fits-text plan report range legal =
     let last = guests_text 0 legal.guests ++ end_line in
     let rest = events_text 0 legal.answers ++ last in
     let text : report ≡ line (head_text run) ++ rest =
-    legal.text ∙ three_texts (head_line run) (events_text 0 legal.answers) (guests_text 0 legal.guests) end_line ∙ ap (λ t. t ++ rest) (sym (first_line run))
+    legal.text ∙ three_texts (head_line run) (events_text 0 legal.answers) (guests_text 0 legal.guests) end_line ∙ ap (λ t. t ++ rest) (sym (joined_head run))
     in
     let first = ap (line_that is_run_of) text ∙ line_that-text is_run_of (head_text run) rest run (free_head run) (is_run_of-text run) in
     let events = schedule_fits-text run (length plan.schedule) legal.answers last (omega (arith, range.few_events)) legal.answered.each_event

@@ -12,6 +12,7 @@ use Rattle.std.proofs.lemmas.List.Sums.{split_at_first, passes_at_first}
 use Rattle.std.proofs.lemmas.Slice.Eq.{bytes_eq-Decides}
 use Rattle.std.proofs.lemmas.Str.Parse.{numerals_by_value, tells_all_ascii_digits}
 use Rattle.std.proofs.lemmas.Fmt.{digits_decimal, digits_value-decimal, decimal-digits_value, decimal_nonempty, first_decimal, decimal_digit}
+use Rattle.std.proofs.lemmas.Option.{same_Some}
 use Rattle.cmm_report.proofs.Splits.{IsFree, IsFree-decimal}
 use Rattle.cmm_check.specs.Reading.{if_read, given, parts_at, cut, without_front, has_no_leading_zero, long_of, numeral_of, two_numbers, three_numbers, first_named}
 use Rattle.cmm_check.proofs.Digits.{long_of-is}
@@ -24,9 +25,6 @@ then_some o f x y e h = rw e h
 pub some_then : {A B : Type 0} (o : Option A) (f : A → Option B) (y : B) → if_read o f ≡ Some y → (x : A) × (o ≡ Some x) × (f x ≡ Some y)
 some_then None f y h = cc h
 some_then (Some x) f y h = (x, refl, h)
-
-pub some_same : {A : Type 0} (x y : A) → Some x ≡ Some y → x ≡ y
-some_same x y e = cc
 
 pub not_some : {A P : Type 0} (x : A) → None ≡ Some x → P
 not_some x e = cc
@@ -126,7 +124,7 @@ cut-parts byte text front rest e =
     elim (cases_lt (position_or_len (is_byte byte) text) (length text)) [
       | inl within ↦
           let test : nat_lt (position_or_len (is_byte byte) text) (length text) ≡ true = lt-ltb _ _ within in
-          found byte text front rest within (some_same _ _ (rw test at e))
+          found byte text front rest within (same_Some _ _ (rw test at e))
       | inr past ↦
           let test : nat_lt (position_or_len (is_byte byte) text) (length text) ≡ false = le-ltb _ _ past in
           not_some _ (rw test at e)
@@ -223,7 +221,7 @@ two_numbers-read text a b e =
     let whole = cut-parts 32 text parts.0.0 parts.0.1 parts.1 in
     let one = numeral_of-read parts.0.0 first.0 first.1 in
     let two = numeral_of-read parts.0.1 second.0 second.1 in
-    let pair = some_same _ _ second.2 in
+    let pair = same_Some _ _ second.2 in
     let x : first.0 ≡ a = ap (λ (p : ℕ × ℕ). p.0) pair in
     let y : second.0 ≡ b = ap (λ (p : ℕ × ℕ). p.1) pair in
     subst (λ m. AreTwo text m b) x
@@ -250,7 +248,7 @@ three_numbers-read text a b c e =
     let others = some_then (two_numbers parts.0.1) _ (a, (b, c)) first.2 in
     let whole = cut-parts 32 text parts.0.0 parts.0.1 parts.1 in
     let one = numeral_of-read parts.0.0 first.0 first.1 in
-    let all = some_same _ _ others.2 in
+    let all = same_Some _ _ others.2 in
     let x : first.0 ≡ a = ap (λ (p : ℕ × (ℕ × ℕ)). p.0) all in
     let rest = ap (λ (p : ℕ × (ℕ × ℕ)). p.1) all in
     let read : two_numbers parts.0.1 ≡ Some (b, c) = others.1 ∙ ap Some rest in
@@ -265,7 +263,7 @@ first_named-text text_of text [] x e = cc e
 first_named-text {A} text_of text (y ∷ ys) x e = at (bytes_eq text (text_of y)) refl (first_named-text text_of text ys x) e
   where
     at : (b : Bool) → bytes_eq text (text_of y) ≡ b → (first_named text_of text ys ≡ Some x → text ≡ text_of x) → cond b (Some y) (first_named text_of text ys) ≡ Some x → text ≡ text_of x
-    at true test more same = same_bytes text (text_of y) test ∙ ap text_of (some_same y x same)
+    at true test more same = same_bytes text (text_of y) test ∙ ap text_of (same_Some y x same)
     at false test more later = more later
 
 -- what holds of all names holds of the one that is found
@@ -274,5 +272,5 @@ first_named-all P text_of text [] x all e = cc e
 first_named-all P text_of text (y ∷ ys) x all e = at (bytes_eq text (text_of y)) (first_named-all P text_of text ys x all.1) e
   where
     at : (b : Bool) → (first_named text_of text ys ≡ Some x → P x) → cond b (Some y) (first_named text_of text ys) ≡ Some x → P x
-    at true more same = subst P (some_same y x same) all.0
+    at true more same = subst P (same_Some y x same) all.0
     at false more later = more later

@@ -11,10 +11,7 @@ use Rattle.cmm_types.specs.declared.plan.FilePlan.{FilePlan}
 use Rattle.cmm_types.specs.InRange.{FileInRange, file_pages_of}
 use Rattle.cmm_io.specs.DiskOf.{page_at, file_bytes, file_blocks, disk_of}
 use Rattle.cmm_types.specs.Bytes.{zero_page}
-
-pub length-zeros : length zero_page ≡ PAGE
-unfolding zero_page
-length-zeros = length-replicate {A = ℕ} PAGE 0
+use Rattle.cmm_types.specs.Laws.BytesLaws.{length-zero_page}
 
 length-file_bytes : (file : FilePlan) → length file.head ≤ PAGE * file.pages → length (file_bytes file) ≡ PAGE * file.pages
 length-file_bytes file fits =
@@ -45,7 +42,7 @@ whole_files (file ∷ files) r =
 
 pub whole_disk : (files : List FilePlan) (swap : ℕ) → All FileInRange files → All (λ bytes. length bytes ≡ PAGE) (disk_of files swap)
 whole_disk files swap r = All-append (λ bytes. length bytes ≡ PAGE) (flat_map file_blocks files) (replicate swap zero_page) (whole_files files r)
-    (All-replicate (λ bytes. length bytes ≡ PAGE) swap zero_page length-zeros)
+    (All-replicate (λ bytes. length bytes ≡ PAGE) swap zero_page length-zero_page)
 
 pub length-disk_of : (files : List FilePlan) (swap : ℕ) → length (disk_of files swap) ≡ file_pages_of files + swap
 length-disk_of files swap =

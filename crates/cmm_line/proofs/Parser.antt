@@ -6,6 +6,7 @@ use Rattle.std.specs.Option.{option_map_or}
 use Rattle.std.specs.Str.{bytes_eq}
 use Rattle.clap.specs.Lexer.{long_of, short_of}
 use Rattle.std.specs.Borrow.{Bor}
+use Rattle.std.proofs.lemmas.Option.{same_Some}
 use Rattle.clap.specs.Walk.{Text, Rule, Held, Step, Walk, idle, value, word_met, walked, walk, nothing_held, to_positional, arg_by_index, after_step, trailing}
 use Rattle.clap.specs.Walk.{long_or_other, short_or_plain, settled, finished, first_of}
 use Rattle.clap.specs.Words.{Shape, built, matches_of, fault_of, is_simple, is_simple_and_free, Kinds, HasKind, kind_of}
@@ -160,15 +161,12 @@ there : (o : Option (Bor Text)) → if_there o ≡ text_there (option_map (λ s.
 there None = refl
 there (Some word) = refl
 
-some_is : (a b : Text) → Some a ≡ Some b → a ≡ b
-some_is a b e = cc
-
 rebuilt : (name : Bor Text) (first second : Option (Bor Text)) (n : Text) (f s : Option Text) → Some name.now ≡ Some n → option_map (λ w. w.now) first ≡ f → option_map (λ w. w.now) second ≡ s
     → n ∷ (text_there f ++ text_there s) ≡ name.now ∷ (if_there first ++ if_there second)
 rebuilt name first second n f s is_name is_first is_second =
     let begin : if_there first ≡ text_there f = there first ∙ ap text_there is_first in
     let end : if_there second ≡ text_there s = there second ∙ ap text_there is_second in
-    ap₂ (λ x (rest : List Text). x ∷ rest) (sym (some_is name.now n is_name)) (sym (ap₂ (λ (x y : List Text). x ++ y) begin end))
+    ap₂ (λ x (rest : List Text). x ∷ rest) (sym (same_Some name.now n is_name)) (sym (ap₂ (λ (x y : List Text). x ++ y) begin end))
 
 not_empty : (k : ErrorKind) → k ∷ [] ≡ [] → ⊥
 not_empty k e = let bad : 1 ≡ 0 = ap length e in absurd (omega (arith, bad))

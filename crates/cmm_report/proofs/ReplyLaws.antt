@@ -46,7 +46,7 @@ IsFree-refusal NotPinned = IsFree-text 10 (flat_refusal_text NotPinned) refl
 IsFree-refusal TooManyMaps = IsFree-text 10 (flat_refusal_text TooManyMaps) refl
 
 -- the two numbers behind `fail nopage`, with the space between them
-counts_text : (pinned unslotted : ℕ) → cause_text (NoPage pinned unslotted) ≡ codes "fail nopage " ++ (decimal pinned ++ (32 ∷ decimal unslotted))
+pub counts_text : (pinned unslotted : ℕ) → cause_text (NoPage pinned unslotted) ≡ codes "fail nopage " ++ (decimal pinned ++ (32 ∷ decimal unslotted))
 counts_text pinned unslotted =
     append_assoc (codes "fail nopage " ++ decimal pinned) (32 ∷ []) (decimal unslotted)
     ∙ append_assoc (codes "fail nopage ") (decimal pinned) (32 ∷ decimal unslotted)

@@ -118,7 +118,7 @@ joined_rest number (guest ∷ guests) =
     ∙ sym (append_assoc head journal (more ++ line (codes "end")))
     ∙ sym (append_assoc (head ++ journal) more (line (codes "end")))
 
-joined_head : (run : Bool) → line (head_text run) ≡ head_line run
+pub joined_head : (run : Bool) → line (head_text run) ≡ head_line run
 joined_head true = refl
 joined_head false = refl
 

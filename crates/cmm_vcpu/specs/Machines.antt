@@ -1,7 +1,6 @@
 -- A machine: the groups of threads, one for each guest and behind them one for each reclaimer.
 use Rattle.std.specs.Prelude.{◌≡◌, ℕ, ◌^◌, ◌<◌, ◌≤◌, List, [], length, map, is_some, true, Option, Some, None, slice_get, slice_index_or}
 use Rattle.std.specs.List.{sum_by}
-use Rattle.cmm_types.specs.declared.plan.GuestPlan.{GuestPlan}
 use Rattle.cmm_types.specs.declared.plan.Scenario.{Scenario}
 use Rattle.cmm_types.specs.declared.plan.TheConstants.{MAX_GUESTS}
 use Rattle.essa_state.specs.declared.fields.Fields.{Fields}
@@ -11,7 +10,7 @@ use Rattle.page_arena.specs.FrameView.{RegionView}
 use Rattle.frame_pool.specs.Seats.{PoolId, PoolSeatView}
 use Rattle.host_shared.specs.Binding.{StorageState}
 use Rattle.host_shared.specs.Reclaiming.{CanReclaim}
-use Rattle.cmm_types.specs.NoPlan.{no_plan}
+use Rattle.cmm_types.specs.NoPlan.{no_plan, plan_at}
 use Rattle.cmm_vcpu.specs.Names.{no_pool, no_table}
 use Rattle.cmm_vcpu.specs.KernelState.{KernelState, HasRun, words_of, own_words, pool_of, opening_kernel}
 use Rattle.cmm_vcpu.specs.LastLooks.{AreLastLooks, FaultsFew, HasLooked}
@@ -144,9 +143,6 @@ pub record IsMachine (m : MachineState) : Type 0 where
   pub owned : (i : ℕ) → i < m.guests → slice_get m.words i ≡ Some (own_words (kernel_at m i))
   pub seated : CanReclaim m.words m.pool m.hosts m.seat
   pub region_is : m.pool.region ≡ m.region
-
-abbrev pub plan_at : Scenario → ℕ → GuestPlan
-plan_at plan guest = slice_index_or plan.guests guest no_plan
 
 -- the machine has the plan's guests
 pub record IsOf (plan : Scenario) (m : MachineState) : Type 0 where

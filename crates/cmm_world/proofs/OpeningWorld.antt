@@ -19,13 +19,10 @@ use Rattle.guest_rules.specs.GuestState.{GuestState, opening_guest}
 use Rattle.essa_state.specs.PageValue.{opening_value}
 use Rattle.guest_rules.specs.Fit.{Fit}
 use Rattle.guest_rules.proofs.Opening.Opening.{Fit-opening}
-use Rattle.cmm_types.specs.NoPlan.{no_plan}
+use Rattle.cmm_types.specs.NoPlan.{no_plan, plan_at}
 use Rattle.cmm_world.specs.WorldState.{WorldState, guest_at, disk_at, opening_host, opening_world}
 use Rattle.cmm_world.specs.WorldFit.{IsWorld}
 use Rattle.cmm_world.specs.Failures.{AreCounted}
-
-abbrev plan_at : Scenario → ℕ → GuestPlan
-plan_at plan guest = slice_index_or plan.guests guest no_plan
 
 pages_at : (plan : Scenario) (guest : ℕ) → guest < length plan.guests → pages_of (served (opening_host plan) guest) guest ≡ (plan_at plan guest).pages
 pages_at plan guest below =

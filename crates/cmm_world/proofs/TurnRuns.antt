@@ -1,6 +1,6 @@
 -- What a guest's turn on the plain host does to the world.
 use Rattle.std.specs.Prelude.{◌≡◌, ◌⊎◌, ◌<◌, ◌++◌, ℕ, List, [], ◌∷◌, length, drop, slice_set, true, false, Bool, Some}
-use Rattle.std.proofs.Common.{refl, sym, ap, inl, inr, arith, subst, ◌∙◌, get_or-set_same, get_or-set_other, get_or-take, get_or-drop}
+use Rattle.std.proofs.Common.{refl, sym, ap, inl, inr, subst, ◌∙◌, get_or-set_same, get_or-set_other, get_or-take, get_or-drop}
 use Rattle.std.proofs.lemmas.Bool.{cases_eq}
 use Rattle.std.proofs.lemmas.List.{append_cancel_left, append_assoc, append-nil}
 use Rattle.cmm_types.specs.declared.command.Entry.{Entry}
@@ -17,7 +17,7 @@ use Rattle.cmm_io.specs.DiskState.{DiskState, DiskStep, disk_view}
 use Rattle.cmm_io.specs.DiskView.{DiskView, DiskFollows}
 use Rattle.essa_state.specs.declared.fields.Fields.{Fields}
 use Rattle.essa_state.specs.StateWord.{is_resident, opening_word}
-use Rattle.essa_state.specs.PageValue.{PageValue, MayBecome, is_lost, may_lose}
+use Rattle.essa_state.specs.PageValue.{is_lost, may_lose}
 use Rattle.cmm_storage.specs.StorageCall.{StorageCall}
 use Rattle.cmm_storage.specs.StorageView.{StorageView, Follows}
 use Rattle.cmm_storage.specs.Program.{Does}
@@ -32,6 +32,7 @@ use Rattle.guest_rules.proofs.TurnLaws.{Fit-turn, Causes-turn, Discards-turn, pl
 use Rattle.guest_rules.specs.Failures.{FailuresFit}
 use Rattle.guest_rules.proofs.Causes.FailuresKept.{Failures-turn}
 use Rattle.cmm_types.specs.NoPlan.{no_plan}
+use Rattle.essa_state.specs.Laws.PageValueLaws.{may_discard}
 use Rattle.cmm_world.specs.WorldState.{WorldState, guest_at, disk_at}
 use Rattle.cmm_world.specs.WorldFit.{IsWorld, view_of}
 use Rattle.cmm_world.specs.Run.{turn_step, turned}
@@ -47,9 +48,6 @@ use Rattle.cmm_world.proofs.EntryTurns.{IsAnswer, IsLocated, IsMapped, one_more,
 -- the world after a guest's turns
 abbrev pub with_turn : WorldState → ℕ → GuestState → HostState → DiskState → WorldState
 with_turn w guest g k e = record { guests = slice_set w.guests guest g; disks = slice_set w.disks guest e; host = k }
-
-may_discard : (x y : PageValue) → MayBecome x y → is_lost y.contents ≡ true → (is_lost x.contents ≡ true) ⊎ (may_lose x.usage x.changed ≡ true)
-may_discard x y may lost = grind arith
 
 -- a host that serves the guest already
 pub served_same : (k : HostState) (guest : ℕ) → k.guest ≡ guest → served k guest ≡ k

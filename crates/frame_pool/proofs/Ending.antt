@@ -7,6 +7,7 @@ use mathlib.Core.Logic.{dite}
 use native.Mathlib.Decide.{ℕ_discrete}
 use Rattle.std.proofs.lemmas.List.Elements.{All-append}
 use Rattle.std.proofs.lemmas.List.{map-append}
+use Rattle.std.proofs.lemmas.Option.{same_Some}
 use mathlib.Core.Option.{some, some-injective, some-ne-none}
 use lib.ListN.{get_elem?}
 use Rattle.page_arena.specs.FrameView.{RegionView, FrameView, IsOf}
@@ -52,15 +53,12 @@ of_one : (region : RegionView) (f : FrameView) → IsOf region f → All (IsOf r
 of_one region f of zero d h = of
 of_one region f of (suc k) d h = absurd (omega arith)
 
-same_frame : (f g : FrameView) → Some f ≡ Some g → f ≡ g
-same_frame f g e = cc
-
 -- the frame of one more word
 one_more : (region : RegionView) (n : ℕ) (fs : List FrameView) (ns : List ℕ) → All (IsOf region) fs × (map (λ f. f.number) fs ≡ ns) → (w : ℕ) (x : Option FrameView)
     → (w ≡ 0 → (f : FrameView) × (x ≡ Some f) × IsFrameOf region n f) → All (IsOf region) (fs ++ frame_if_in w x) × (map (λ f. f.number) (fs ++ frame_if_in w x) ≡ ns ++ if_in w n)
 one_more region n fs ns before zero None here = let bad : None ≡ Some (here refl).0 = (here refl).1 in absurd (cc)
 one_more region n fs ns before zero (Some f) here =
-    let is : f ≡ (here refl).0 = same_frame f (here refl).0 (here refl).1 in
+    let is : f ≡ (here refl).0 = same_Some f (here refl).0 (here refl).1 in
     let of : IsOf region f = ap (λ (g : FrameView). g.region) is ∙ (here refl).2.0 in
     let number : f.number ≡ n = ap (λ (g : FrameView). g.number) is ∙ (here refl).2.1 in (
       All-append (IsOf region) fs (f ∷ []) before.0 (of_one region f of),

@@ -6,21 +6,19 @@ use Rattle.std.proofs.lemmas.List.Sums.{sum_by-cons}
 use Rattle.std.proofs.Props.{props}
 use Rattle.std.proofs.Math.Logic.{∥∥₁_elim}
 use Rattle.std.proofs.lemmas.Bool.{cases_eq, cases_lt, eq-eqb, ne_eqb}
+use Rattle.std.proofs.lemmas.Option.{same_Some}
 use Rattle.guest_maps.specs.declared.slot.Pte.{Pte}
 use Rattle.guest_maps.specs.MapsView.{shows}
 use Rattle.guest_maps.specs.EntryChains.{page_shown, AreChains, AreLinked, HasChains, set_at, first_with}
 
 -- ---- options of numbers
 
-some_exact : (a b : ℕ) → Some a ≡ Some b → a ≡ b
-some_exact a b same = cc
-
 not_none : (a : ℕ) (o : Option ℕ) → o ≡ Some a → o ≢ None
 not_none a o some none = cc
 
 cases_some : (o : Option ℕ) (k : ℕ) → (o ≡ Some k) ⊎ (o ≢ Some k)
 cases_some None k = inr (λ same. cc)
-cases_some (Some a) k = ⊎_elim (λ same. inl (ap Some same)) (λ apart. inr (λ same. apart (some_exact a k same))) (cases_eq a k)
+cases_some (Some a) k = ⊎_elim (λ same. inl (ap Some same)) (λ apart. inr (λ same. apart (same_Some a k same))) (cases_eq a k)
 
 -- ---- chains over functions: a place leaves its chain
 
@@ -71,7 +69,7 @@ left shown first next before shown' first' next' before' rank p page b n chains 
     follows k later leads apart (inr is_not) =
         let one = chains.follows k later (sym (after.next_others k apart is_not) ∙ leads) in
         let later_apart : later ≢ p = λ same. is_not (sym at_b ∙ ap before (sym same) ∙ one.2) in
-        let n_not : n ≢ Some later = λ same. apart (some_exact k p (sym one.2 ∙ (chains.follows p later (at_n ∙ same)).2)) in (
+        let n_not : n ≢ Some later = λ same. apart (same_Some k p (sym one.2 ∙ (chains.follows p later (at_n ∙ same)).2)) in (
           subst (λ s. s ≢ None) (sym (after.others k apart)) one.0,
           after.others later later_apart ∙ one.1 ∙ sym (after.others k apart),
           after.before_others later n_not ∙ one.2,
@@ -87,14 +85,14 @@ left shown first next before shown' first' next' before' rank p page b n chains 
         let leads_k : next earlier ≡ Some k = chains.precedes k earlier other (sym (after.others k apart) ∙ there) (sym (after.before_others k n_not) ∙ is) in
         after.next_others earlier
         (λ same. n_not (sym at_n ∙ ap next (sym same) ∙ leads_k))
-        (λ b_is. apart (some_exact k p (sym leads_k ∙ to_p earlier b_is)))
+        (λ b_is. apart (same_Some k p (sym leads_k ∙ to_p earlier b_is)))
         ∙ leads_k
 
     leads : (k other : ℕ) → shown' k ≡ Some other → before' k ≡ None → k ≢ p → (n ≡ Some k) ⊎ (n ≢ Some k) → (other ≡ page) ⊎ (other ≢ page) → first' other ≡ Some k
     leads k other there none apart (inl n_is) _ =
         let b_none : b ≡ None = sym (after.before_of k n_is) ∙ none in
         let one = chains.follows p k (at_n ∙ n_is) in
-        let same : other ≡ page = some_exact other page (sym there ∙ after.others k apart ∙ one.1 ∙ at) in
+        let same : other ≡ page = same_Some other page (sym there ∙ after.others k apart ∙ one.1 ∙ at) in
         ap first' same ∙ after.first_of b_none ∙ n_is
     leads k other there none apart (inr n_not) (inr other_page) =
         after.first_others other other_page ∙ chains.leads k other (sym (after.others k apart) ∙ there) (sym (after.before_others k n_not) ∙ none)
@@ -103,14 +101,14 @@ left shown first next before shown' first' next' before' rank p page b n chains 
         by_before b refl is_first
       where
         by_before : (o : Option ℕ) → b ≡ o → first other ≡ Some k → first' other ≡ Some k
-        by_before None is is_first = absurd (apart (some_exact k p (sym is_first ∙ ap first same ∙ chains.leads p page at (at_b ∙ is))))
+        by_before None is is_first = absurd (apart (same_Some k p (sym is_first ∙ ap first same ∙ chains.leads p page at (at_b ∙ is))))
         by_before (Some e) is is_first = ap first' same ∙ after.first_same e is ∙ ap first (sym same) ∙ is_first
 
     starts : (other k : ℕ) → first' other ≡ Some k → (other ≡ page) ⊎ (other ≢ page) → (o : Option ℕ) → b ≡ o → (shown' k ≡ Some other) × (before' k ≡ None)
     starts other k is (inr apart) o b_is =
         let one = chains.starts other k (sym (after.first_others other apart) ∙ is) in
-        let not_p : k ≢ p = λ same. apart (some_exact other page (sym one.0 ∙ ap shown same ∙ at)) in
-        let n_not : n ≢ Some k = λ same. apart (some_exact other page (sym one.0 ∙ (chains.follows p k (at_n ∙ same)).1 ∙ at)) in
+        let not_p : k ≢ p = λ same. apart (same_Some other page (sym one.0 ∙ ap shown same ∙ at)) in
+        let n_not : n ≢ Some k = λ same. apart (same_Some other page (sym one.0 ∙ (chains.follows p k (at_n ∙ same)).1 ∙ at)) in
         (after.others k not_p ∙ one.0, after.before_others k n_not ∙ one.1)
     starts other k is (inl same) None b_is =
         let n_is : n ≡ Some k = sym (after.first_of b_is) ∙ ap first' (sym same) ∙ is in
@@ -186,7 +184,7 @@ joined shown first next before shown' first' next' before' rank p page n chains 
     precedes : (k earlier other : ℕ) → shown' k ≡ Some other → before' k ≡ Some earlier → (k ≡ p) ⊎ (k ≢ p) → (n ≡ Some k) ⊎ (n ≢ Some k) → next' earlier ≡ Some k
     precedes k earlier other there is (inl same) _ = absurd (not_none earlier (before' k) is (ap before' same ∙ after.before_here))
     precedes k earlier other there is (inr apart) (inl n_is) =
-        let earlier_is : earlier ≡ p = some_exact earlier p (sym is ∙ after.before_of k apart n_is) in
+        let earlier_is : earlier ≡ p = same_Some earlier p (sym is ∙ after.before_of k apart n_is) in
         ap next' earlier_is ∙ after.next_here ∙ n_is
     precedes k earlier other there is (inr apart) (inr n_not) =
         let leads_k : next earlier ≡ Some k = chains.precedes k earlier other (sym (after.others k apart) ∙ there) (sym (after.before_others k apart n_not) ∙ is) in
@@ -194,7 +192,7 @@ joined shown first next before shown' first' next' before' rank p page n chains 
 
     leads : (k other : ℕ) → shown' k ≡ Some other → before' k ≡ None → (k ≡ p) ⊎ (k ≢ p) → (n ≡ Some k) ⊎ (n ≢ Some k) → first' other ≡ Some k
     leads k other there none (inl same) _ =
-        let other_is : other ≡ page = some_exact other page (sym there ∙ ap shown' same ∙ after.here) in
+        let other_is : other ≡ page = same_Some other page (sym there ∙ ap shown' same ∙ after.here) in
         ap first' other_is ∙ after.first_here ∙ ap Some (sym same)
     leads k other there none (inr apart) (inl n_is) = absurd (not_none p (before' k) (after.before_of k apart n_is) none)
     leads k other there none (inr apart) (inr n_not) =
@@ -203,12 +201,12 @@ joined shown first next before shown' first' next' before' rank p page n chains 
 
     starts : (other k : ℕ) → first' other ≡ Some k → (other ≡ page) ⊎ (other ≢ page) → (shown' k ≡ Some other) × (before' k ≡ None)
     starts other k is (inl same) =
-        let k_is : k ≡ p = some_exact k p (sym is ∙ ap first' same ∙ after.first_here) in
+        let k_is : k ≡ p = same_Some k p (sym is ∙ ap first' same ∙ after.first_here) in
         (ap shown' k_is ∙ after.here ∙ ap Some (sym same), ap before' k_is ∙ after.before_here)
     starts other k is (inr apart) =
         let one = chains.starts other k (sym (after.first_others other apart) ∙ is) in
         let not_p = shows_not_p k other one.0 in
-        let n_not : n ≢ Some k = λ n_is. apart (some_exact other page (sym one.0 ∙ (chains.starts page k (at_n ∙ n_is)).0)) in
+        let n_not : n ≢ Some k = λ n_is. apart (same_Some other page (sym one.0 ∙ (chains.starts page k (at_n ∙ n_is)).0)) in
         (after.others k not_p ∙ one.0, after.before_others k not_p n_not ∙ one.1)
 
 -- ---- lists of links
@@ -301,7 +299,7 @@ HasChains-made entries first next before p pte n kept within empty page_within a
     others k apart = ap page_shown (get_or-set_other entries p k (Some pte) None apart)
 
     in_range : (k other : ℕ) → page_shown (get_or (set entries p (Some pte)) k None) ≡ Some other → (k ≡ p) ⊎ (k ≢ p) → other < length first
-    in_range k other there (inl same) = omega (arith, some_exact other pte.page (sym there ∙ ap (λ i. page_shown (get_or (set entries p (Some pte)) i None)) same ∙ here))
+    in_range k other there (inl same) = omega (arith, same_Some other pte.page (sym there ∙ ap (λ i. page_shown (get_or (set entries p (Some pte)) i None)) same ∙ here))
     in_range k other there (inr apart) = kept.in_range k other (sym (others k apart) ∙ there)
 
     after : (rank : ℕ → ℕ) → AreLinked entries first next before rank
@@ -337,7 +335,7 @@ reached shown first next before rank page chains (suc n) k below there = by_befo
 
 shows_page : (page : ℕ) (entry : Option Pte) → page_shown entry ≡ Some page → shows page entry ≡ true
 shows_page page None there = absurd (not_none page None there refl)
-shows_page page (Some pte) there = eq-eqb pte.page page (some_exact pte.page page there)
+shows_page page (Some pte) there = eq-eqb pte.page page (same_Some pte.page page there)
 
 page_of_shows : (page : ℕ) (entry : Option Pte) → (page_shown entry ≢ Some page) → shows page entry ≡ false
 page_of_shows page None apart = refl

@@ -4,7 +4,7 @@ use Rattle.std.proofs.Common.{arith, ap, sym, subst, inl, inr, ◌∙◌, get_or
 use Rattle.std.proofs.Math.ListN.{length-set, get_or-eq_default}
 use Rattle.std.proofs.lemmas.Bool.{cases_eq, cases_lt}
 use Rattle.std.proofs.lemmas.Grind.{common_steps}
-use Rattle.std.proofs.lemmas.List.{set-get_or, get_or_default, length-replicate}
+use Rattle.std.proofs.lemmas.List.{set-get_or, get_or_default}
 use Rattle.essa_state.specs.declared.fields.Fields.{Fields}
 use Rattle.essa_state.specs.StateWord.{is_resident, is_permitted, is_zero, opening_word}
 use Rattle.essa_state.specs.declared.orders.Order.{Order}
@@ -17,6 +17,7 @@ use Rattle.cmm_io.specs.FailurePlan.{FailurePlan, fails_next}
 use Rattle.essa_state.specs.Orders.{after_order}
 use Rattle.essa_state.specs.Laws.WordLaws.{ordered-permitted}
 use Rattle.cmm_types.specs.Bytes.{with_bytes, zero_page}
+use Rattle.cmm_types.specs.Laws.BytesLaws.{length-zero_page}
 use Rattle.essa_state.specs.PageBody.{Body, FitsWord, frame_bytes}
 use Rattle.host_plain.specs.Eviction.{aged_words, aged_candidate, word_in, words_passed, passed_by, moved_page, reclaimed_page, preserved_at}
 use Rattle.marks.specs.Marking.{wrapped}
@@ -146,17 +147,13 @@ zeroed-page : (old : Fields) → is_permitted old ≡ true → is_zero old.conte
     (is_permitted (record old { content = Resident }) ≡ true) × (is_resident old.content ≡ false)
 zeroed-page old permitted blank = grind arith
 
-zeros-whole : length zero_page ≡ PAGE
-unfolding zero_page
-zeros-whole = length-replicate {A = ℕ} PAGE 0
-
 -- a page without contents that gets a frame of the free ones
 pub zeroed_kept : (m : MemoryState) (place : ℕ) → IsMemory m → place < length m.words → is_zero (word_at m place).content ≡ true → 0 < m.free → IsMemory (zeroed_at m place)
 zeroed_kept m place sound below blank frame =
     let page = sound.pages place below in
     let zeroed = zeroed-page (word_at m place) page.permitted blank in
     page_kept m place (brought (word_at m place)) (body_with_bytes (body_at m place) zero_page) sound below
-    (record { permitted = zeroed.0; fits = refl; whole = record { block = page.whole.block; bytes = λ some. zeros-whole } })
+    (record { permitted = zeroed.0; fits = refl; whole = record { block = page.whole.block; bytes = λ some. length-zero_page } })
     (omega (arith, frame))
 
 -- ages keep the number of words

@@ -1,5 +1,5 @@
 -- Laws of page values: what orders and host moves make of them.
-use Rattle.std.specs.Prelude.{◌≡◌, true, refl}
+use Rattle.std.specs.Prelude.{◌≡◌, ◌⊎◌, true, refl}
 use Rattle.std.proofs.Common.{arith, sym, inl, inr, subst}
 use Rattle.cmm_types.specs.declared.page.Move.{Move}
 use Rattle.cmm_types.specs.declared.page.Move.TheVariants.{Discard}
@@ -8,7 +8,7 @@ use Rattle.essa_state.specs.declared.orders.Order.{Order}
 use Rattle.essa_state.specs.declared.orders.Order.TheVariants.{Get}
 use Rattle.essa_state.specs.StateWord.{is_permitted}
 use Rattle.essa_state.specs.Orders.{order_done, after_order}
-use Rattle.essa_state.specs.PageValue.{PageValue, IsValue, OrderStep, MayBecome, IsDiscarded, IsScrambled}
+use Rattle.essa_state.specs.PageValue.{PageValue, IsValue, OrderStep, MayBecome, IsDiscarded, IsScrambled, is_lost, may_lose}
 use Rattle.essa_state.specs.PageBody.{Body, FitsWord, HostMove, actual}
 
 -- every order, whether or not it is done
@@ -46,3 +46,7 @@ MayBecome-trans v w x (inr (inr s)) (inr (inr s')) = grind arith
 
 pub MayBecome-is_value : (v w : PageValue) → IsValue v → MayBecome v w → IsValue w
 MayBecome-is_value v w h m = grind arith
+
+-- the host discards only what it may
+pub may_discard : (x y : PageValue) → MayBecome x y → is_lost y.contents ≡ true → (is_lost x.contents ≡ true) ⊎ (may_lose x.usage x.changed ≡ true)
+may_discard x y may lost = grind arith

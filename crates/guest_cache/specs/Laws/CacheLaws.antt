@@ -6,6 +6,7 @@ use Rattle.std.proofs.lemmas.List.Sums.{sum_by_more, sum_by-take-le}
 use Rattle.std.proofs.lemmas.List.Quantifiers.{position-Some}
 use Rattle.std.proofs.lemmas.Bool.{cases_order, and_parts, eqb-true}
 use Rattle.std.proofs.lemmas.Bool.Decides.{nat_tests}
+use Rattle.std.proofs.lemmas.Option.{same_Some}
 use Rattle.cmm_types.specs.declared.command.TheConstants.{MAX_MAPPING_PAGES}
 use Rattle.cmm_types.specs.declared.page.Tag.{Tag}
 use Rattle.cmm_types.specs.declared.page.Tag.TheVariants.{File, Anon}
@@ -15,9 +16,6 @@ use Rattle.guest_cache.specs.CacheView.{without_page, holds_page, swap_slot, swa
 -- every tag has its place in the index
 pub record IsCache (cache : CacheView) : Type 0 where
   pub whole : length cache.index ≡ sum cache.files + cache.slots * MAX_MAPPING_PAGES
-
-some_exact : (a b : ℕ) → Some a ≡ Some b → a ≡ b
-some_exact a b same = cc
 
 -- ---- the places of a file's pages
 
@@ -112,12 +110,12 @@ page_of-opening files swap slots tag is =
 
 -- each file's page has a block of its own, below the number of file pages, and each swap slot one behind these
 pub backing_of-below : (cache : CacheView) (tag : Tag) (block : ℕ) → IsTag cache tag → backing_of cache tag ≡ Some block → block < sum cache.files + length cache.swap
-backing_of-below cache (File file index) block is at = omega (arith, before_all cache.files file index is.0 is.1, some_exact _ _ at)
+backing_of-below cache (File file index) block is at = omega (arith, before_all cache.files file index is.0 is.1, same_Some _ _ at)
 backing_of-below cache (Anon slot index) block is at = of (swap_slot cache (Anon slot index)) refl at
   where
     of : (found : Option ℕ) → swap_slot cache (Anon slot index) ≡ found → swap_block cache.files found ≡ Some block → block < sum cache.files + length cache.swap
     of None none at = let bad : None ≡ Some block = at in absurd cc
-    of (Some number) found at = omega (arith, (position-Some (holds_page slot index) cache.swap number None found).0, some_exact _ _ at)
+    of (Some number) found at = omega (arith, (position-Some (holds_page slot index) cache.swap number None found).0, same_Some _ _ at)
 
 -- a swap slot that is assigned to a page is assigned to no other
 pub holds-itself : (slot index : ℕ) → holds_page slot index (Some (Anon slot index)) ≡ true
@@ -133,17 +131,17 @@ holds-exact s t i j (Some (Anon slot at)) one two =
 
 swap_block-exact : (files : List ℕ) (number : Option ℕ) (block : ℕ) → swap_block files number ≡ Some block → (n : ℕ) × (number ≡ Some n) × (sum files + n ≡ block)
 swap_block-exact files None block at = let bad : None ≡ Some block = at in absurd cc
-swap_block-exact files (Some n) block at = (n, refl, some_exact _ _ at)
+swap_block-exact files (Some n) block at = (n, refl, same_Some _ _ at)
 
 -- two tags have two blocks
 pub block_exact : (cache : CacheView) (t u : Tag) (block : ℕ) → IsTag cache t → IsTag cache u → backing_of cache t ≡ Some block → backing_of cache u ≡ Some block → t ≡ u
-block_exact cache (File f i) (File g j) block is_t is_u at_t at_u = place_exact cache (File f i) (File g j) is_t is_u (some_exact _ _ at_t ∙ sym (some_exact _ _ at_u))
+block_exact cache (File f i) (File g j) block is_t is_u at_t at_u = place_exact cache (File f i) (File g j) is_t is_u (same_Some _ _ at_t ∙ sym (same_Some _ _ at_u))
 block_exact cache (File f i) (Anon s j) block is_t is_u at_t at_u =
     let k = swap_block-exact cache.files (swap_slot cache (Anon s j)) block at_u in
-    absurd (omega (arith, before_all cache.files f i is_t.0 is_t.1, some_exact _ _ at_t, k.2))
+    absurd (omega (arith, before_all cache.files f i is_t.0 is_t.1, same_Some _ _ at_t, k.2))
 block_exact cache (Anon s i) (File g j) block is_t is_u at_t at_u =
     let k = swap_block-exact cache.files (swap_slot cache (Anon s i)) block at_t in
-    absurd (omega (arith, before_all cache.files g j is_u.0 is_u.1, some_exact _ _ at_u, k.2))
+    absurd (omega (arith, before_all cache.files g j is_u.0 is_u.1, same_Some _ _ at_u, k.2))
 block_exact cache (Anon s i) (Anon t j) block is_t is_u at_t at_u =
     let k = swap_block-exact cache.files (swap_slot cache (Anon s i)) block at_t in
     let m = swap_block-exact cache.files (swap_slot cache (Anon t j)) block at_u in

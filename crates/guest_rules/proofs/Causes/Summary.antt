@@ -1,11 +1,12 @@
 -- What every turn leaves: the guest's plan as it was, and no page discarded that may not be.
-use Rattle.std.specs.Prelude.{◌≡◌, ◌⊎◌, ℕ, true, false}
+use Rattle.std.specs.Prelude.{◌≡◌, ℕ, true, false}
 use Rattle.std.proofs.Common.{arith, sym, ap, inl, inr, ◌∙◌}
 use Rattle.std.proofs.lemmas.Bool.{cases_eq}
 use Rattle.cmm_types.specs.declared.command.Op.{Op}
 use Rattle.cmm_types.specs.declared.turn.Turn.{Turn}
 use Rattle.cmm_io.specs.DiskView.{DiskView}
-use Rattle.essa_state.specs.PageValue.{PageValue, Contents, IsMadeUnused, MayBecome, is_lost, may_lose, stable_contents}
+use Rattle.essa_state.specs.PageValue.{PageValue, Contents, IsMadeUnused, is_lost, stable_contents}
+use Rattle.essa_state.specs.Laws.PageValueLaws.{may_discard}
 use Rattle.cmm_storage.specs.StorageView.{StorageView, Keeps}
 use Rattle.guest_rules.specs.declared.parts.Parts.{Parts}
 use Rattle.guest_rules.specs.GuestState.{GuestState, with_phase, entered, answered, next_command}
@@ -39,10 +40,6 @@ plan_torn_past g cpu slot index after h t (tears_on more eh et) = ap (λ q. q.pl
 plan_torn_past g cpu slot index after h t (has_ended last eh et) = ap (λ q. q.plan) eh
 
 -- ---- no page is discarded wrongly
-
--- the host discards only what it may
-may_discard : (x y : PageValue) → MayBecome x y → is_lost y.contents ≡ true → (is_lost x.contents ≡ true) ⊎ (may_lose x.usage x.changed ≡ true)
-may_discard x y may lost = grind arith
 
 same_pages : (v w : StorageView) → w ≡ v → NoWrongDiscard v w
 same_pages v w same page below lost = inl (ap (λ (q : StorageView). is_lost (q.values page).contents) (sym same) ∙ lost)

@@ -12,7 +12,7 @@ use Rattle.cmm_types.specs.declared.plan.GuestPlan.{GuestPlan}
 use Rattle.cmm_types.specs.declared.command.TheConstants.{MAX_MAPPING_NUMBERS, MAX_MAPPING_PAGES}
 use Rattle.cmm_types.specs.declared.command.Op.{Op}
 use Rattle.cmm_types.specs.declared.command.Op.TheVariants.{Read, MapFile, MapAnon, Unmap, Load, Store, Pin, Unpin, Sync}
-use Rattle.cmm_types.specs.InRange.{GuestInRange, ArePages, IsPiece, file_pages_of}
+use Rattle.cmm_types.specs.InRange.{ArePages, IsPiece, file_pages_of}
 use Rattle.cmm_io.specs.DiskView.{DiskView}
 use Rattle.essa_state.specs.StateWord.{is_unused}
 use Rattle.cmm_flat.specs.Legal.{command_of, process_of, flat_of}

@@ -1,7 +1,6 @@
 -- What the filling of a locked page does, seen from its views.
 use Rattle.std.specs.Prelude.{◌≡◌, ℕ, List, Bool, true, false, Option, Some, None, Result, Ok, Err, length, refl}
 use Rattle.std.proofs.Common.{sym, ap, inl, ◌∙◌}
-use Rattle.std.proofs.lemmas.List.{length-replicate}
 use Rattle.cmm_types.specs.declared.page.TheConstants.{PAGE}
 use Rattle.cmm_types.specs.declared.page.Usage.{Usage}
 use Rattle.cmm_types.specs.declared.page.Usage.TheVariants.{S, V}
@@ -17,6 +16,7 @@ use Rattle.cmm_storage.specs.declared.storage.Trap.TheVariants.{Discarded, Pagin
 use Rattle.cmm_storage.specs.StorageCall.{Touch}
 use Rattle.cmm_storage.specs.StorageView.{StorageView, Follows, Keeps, Misses, IsWhole, bytes_of, told}
 use Rattle.cmm_types.specs.Bytes.{with_bytes, zero_page}
+use Rattle.cmm_types.specs.Laws.BytesLaws.{length-zero_page}
 use Rattle.cmm_storage.specs.Program.{block_read}
 use Rattle.cmm_storage.specs.Views.{Seen, Keeps-trans}
 use Rattle.guest_pages.specs.PagesView.{info_at}
@@ -112,10 +112,6 @@ filled_with parts page bytes v n m d x a r w e f keeps is blocks size are (o, (k
         → record y { usage = usage; changed = false } ≡ record { usage = V; changed = false; contents = Bytes those; count = old.count }
     of_fields usage y old those u b n = rw (u, b, n) refl
 
-zeros_size : length zero_page ≡ PAGE
-unfolding zero_page
-zeros_size = length-replicate {A = ℕ} PAGE 0
-
 -- parts the guest's tables, page the page, v and w its storage before and after, d and e its disk before and after, a the tables after, r the answer
 module _ (parts : Parts) (page : ℕ) (v : StorageView) (d : DiskView) (a : Parts) (r : Filled) (w : StorageView) (e : DiskView) where
   -- what a read of a block gave
@@ -130,7 +126,7 @@ module _ (parts : Parts) (page : ℕ) (v : StorageView) (d : DiskView) (a : Part
   filled_from : (block : Option ℕ) (n m : StorageView) → IsFillable parts page v d n → Keeps n page m → IsTouched page v m → backing_at parts page ≡ block
       → Seen (fill_from parts page block) m d (a, r) w e → FillOutcome parts page v d a r w e
   filled_from (Some block) n m f keeps is at_block (was, bytes, x, follows, run) = filled_read block n m x was bytes f keeps is at_block follows run
-  filled_from None n m f keeps is at_block run = filled_with parts page zero_page v n m d d a r w e f keeps is (record { count = refl; blocks = refl }) zeros_size (rw at_block refl) run
+  filled_from None n m f keeps is at_block run = filled_with parts page zero_page v n m d d a r w e f keeps is (record { count = refl; blocks = refl }) length-zero_page (rw at_block refl) run
 
   filled_touched : (n m : StorageView) (trap : Result Unit Trap) → IsFillable parts page v d n → Follows n (Touch page trap) m → Seen (fill_touched parts page trap) m d (a, r) w e
       → FillOutcome parts page v d a r w e
