@@ -14,7 +14,7 @@ use Rattle.cmm_check.specs.Verdict.{verdict_of}
 use Rattle.cmm_check.proofs.LegalLaws.{legal_is_accepted, legal_guests}
 use Rattle.cmm_types.specs.NoPlan.{no_plan, plan_at}
 use Rattle.cmm_vcpu.specs.KernelState.{HasRun}
-use Rattle.cmm_vcpu.specs.Machines.{MachineState, IsOf, AllHaveRun, kernel_at}
+use Rattle.cmm_vcpu.specs.Machines.{MachineState, IsOfPlan, AllHaveRun, kernel_at}
 use Rattle.cmm2_cli.specs.Running.{IsRunReport, AreRunReports, looked_discards, machine_report, machine_reports, no_report}
 
 length-reports : (m : MachineState) → length (machine_reports m) ≡ m.guests
@@ -30,7 +30,7 @@ report-at m guest below =
     let at : slice_index_or (range_with_len 0 (m.guests - 0)) guest 0 ≡ guest = get_or-range_with_len 0 (m.guests - 0) guest 0 left ∙ from in
     get_or-map (machine_report m) (range_with_len 0 (m.guests - 0)) guest 0 no_report within ∙ ap (machine_report m) at
 
-module _ (plan : Scenario) (m n : MachineState) (of : IsOf plan m) (run : AllHaveRun m n) where
+module _ (plan : Scenario) (m n : MachineState) (of : IsOfPlan plan m) (run : AllHaveRun m n) where
   its_report : (guest : ℕ) → guest < length plan.guests → IsRunReport (plan_at plan guest) (machine_report n guest)
   its_report guest lt =
       let below : guest < m.guests = omega (arith, lt, of.count) in

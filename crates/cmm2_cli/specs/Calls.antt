@@ -25,8 +25,8 @@ reads_input (Some (Demo start size)) = false
 module _ {S : Type 0} (source_faults : S → ℕ) (rest : S → Option (List ℕ)) (given : S → ℕ) (before after : S)
     {K : Type 0} (faults : K → ℕ) (written : K → Option (List ℕ)) (old new : K) where
   -- a scenario is played, or a report judged
-  abbrev pub Serves : Input → Status → Type 0
-  Serves input result = ReadsInput rest given before after faults written old new (limit_of input) (AnswersBytes faults written old new input) result
+  abbrev pub ServesInput : Input → Status → Type 0
+  ServesInput input result = ReadsInput rest given before after faults written old new (limit_of input) (AnswersBytes faults written old new input) result
 
   -- a scenario is run
   abbrev pub ServesRun : Status → Type 0
@@ -35,9 +35,9 @@ module _ {S : Type 0} (source_faults : S → ℕ) (rest : S → Option (List ℕ
   -- each line has its answer, and words that are none are refused. Where memory runs out, nothing is written
   abbrev pub AnswersLine : Option Line → Status → Type 0
   AnswersLine None result = Answers faults written old new (refusal_text Words) Usage result ⊎ WroteNothing faults written old new NoMemory result
-  AnswersLine (Some Replay) result = Serves Scenario result
+  AnswersLine (Some Replay) result = ServesInput Scenario result
   AnswersLine (Some Run) result = ServesRun result
-  AnswersLine (Some Check) result = Serves Report result
+  AnswersLine (Some Check) result = ServesInput Report result
   AnswersLine (Some (Gen start size)) result =
       Answers faults written old new (generated_text start size) Done result ⊎ WroteNothing faults written old new NoMemory result
   AnswersLine (Some (Demo start size)) result = Demonstrates faults written old new start size result ⊎ WroteNothing faults written old new NoMemory result

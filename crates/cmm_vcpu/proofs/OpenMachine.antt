@@ -7,13 +7,13 @@ use Rattle.cmm_types.specs.declared.plan.Scenario.{Scenario}
 use Rattle.cmm_types.specs.InRange.{ScenarioInRange}
 use Rattle.state_words.specs.SeatView.{WordsView, Seated}
 use Rattle.frame_pool.specs.Seats.{PoolId}
-use Rattle.cmm_vcpu.specs.Machines.{GroupState, MachineState, IsMachine, IsReady, IsOf, no_group}
+use Rattle.cmm_vcpu.specs.Machines.{GroupState, MachineState, IsMachine, IsReady, IsOfPlan, no_group}
 use Rattle.cmm_types.specs.NoPlan.{no_plan}
 use Rattle.cmm_vcpu.specs.Opening.{CanSeat, AreTables, AreOpen, IsGuestGroup}
 use Rattle.cmm_vcpu.proofs.OpenGroups.{can_reclaim}
 
 pub opened_machine : (plan : Scenario) (m : MachineState) → ScenarioInRange plan → AreOpen plan m.pool m.words m.hosts m.groups → m.seat.pool ≡ m.pool → m.pool.region ≡ m.region
-    → m.guests ≡ length plan.guests → IsMachine m × IsOf plan m
+    → m.guests ≡ length plan.guests → IsMachine m × IsOfPlan plan m
 opened_machine plan m range made of_pool region_is guests = (
   record {
     few = omega (arith, guests, range.guests.few);

@@ -145,7 +145,7 @@ pub record IsMachine (m : MachineState) : Type 0 where
   pub region_is : m.pool.region ≡ m.region
 
 -- the machine has the plan's guests
-pub record IsOf (plan : Scenario) (m : MachineState) : Type 0 where
+pub record IsOfPlan (plan : Scenario) (m : MachineState) : Type 0 where
   pub count : m.guests ≡ length plan.guests
   pub plans : (guest : ℕ) → guest < m.guests → (kernel_at m guest).guest.plan ≡ plan_at plan guest
 

@@ -3,7 +3,7 @@ ghost use Rattle.cmm_types.specs.declared.plan.TheConstants.{MAX_GUEST_PAGES};
 ghost use Rattle.cmm_types.specs.InRange.{ScenarioInRange};
 ghost use Rattle.frame_pool.specs.Seats.{frame_count};
 ghost use Rattle.cmm_vcpu.specs.Closing.{Loses};
-ghost use Rattle.cmm_vcpu.specs.Machines.{AllHaveRun, IsOf, kernel_at, looked_at};
+ghost use Rattle.cmm_vcpu.specs.Machines.{AllHaveRun, IsOfPlan, kernel_at, looked_at};
 
 use crate::closing::{close_pool, close_tables};
 use crate::ended::open_ended;
@@ -58,7 +58,7 @@ impl Machine {
     /// and the region of the frames are closed again.
     pub fn open(alloc: Global, plan: &Scenario) -> Result<Machine, AllocError>
         requires { ScenarioInRange plan.now }
-        ensures { IfOk result (λ machine. IsOf plan.now machine) }
+        ensures { IfOk result (λ machine. IsOfPlan plan.now machine) }
     {
         let guests = plan.guests.len();
         let ended = open_ended(alloc, guests)?;

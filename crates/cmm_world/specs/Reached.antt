@@ -11,12 +11,12 @@ use Rattle.essa_state.specs.StateWord.{is_resident, opening_word}
 use Rattle.guest_maps.specs.declared.slot.Pte.{Pte}
 use Rattle.guest_maps.specs.MapsView.{find_slot, entry_at}
 use Rattle.cmm_world.specs.WorldState.{WorldState, guest_at}
-use Rattle.cmm_world.specs.WorldView.{words_in}
+use Rattle.cmm_world.specs.WorldView.{world_words}
 use Rattle.cmm_world.specs.Run.{world_step}
 
 -- the state word of a guest's page
 abbrev pub world_word : WorldState → (guest page : ℕ) → Fields
-world_word w guest page = slice_index_or (words_in w guest) page opening_word
+world_word w guest page = slice_index_or (world_words w guest) page opening_word
 
 -- an entry shows a page at this offset of a process's mapping, and that page's word is resident, with its reference bit set, and where the
 -- page was stored to, with its change bit set

@@ -4,7 +4,7 @@ ghost use Rattle.cmm_types.specs.declared.event.Answer.TheVariants.{Turn as Turn
 ghost use Rattle.cmm_types.specs.declared.plan.TheConstants.{MAX_GUEST_PAGES};
 ghost use Rattle.cmm_types.specs.InRange.{EventInRange, ScenarioInRange};
 ghost use Rattle.cmm_world.specs.WorldState.{WorldState, guest_at, disk_at};
-ghost use Rattle.cmm_world.specs.WorldView.{WorldView, opening_view, plans_of, words_in};
+ghost use Rattle.cmm_world.specs.WorldView.{WorldView, opening_view, plans_of, world_words};
 ghost use Rattle.cmm_world.specs.WorldFit.{WorldFit, KeepsWorld};
 ghost use Rattle.cmm_world.specs.Failures.{WorldCounted};
 ghost use Rattle.cmm_world.specs.Run.{applied_answer, answers_of, world_after};
@@ -193,7 +193,7 @@ impl World {
     /// The state words of a guest's pages.
     pub fn words(&self, guest: u32) -> &[Word]
         requires { guest < length self.now.state.guests }
-        ensures words { result.now ≡ words_in self.now.state guest }
+        ensures words { result.now ≡ world_words self.now.state guest }
         ensures few { length result.now ≤ MAX_GUEST_PAGES }
     {
         self.host.words(guest)

@@ -45,8 +45,8 @@ abbrev pub sole_view : List PoolView → PoolView
 sole_view [] = spent_view
 sole_view (v ∷ vs) = v
 
-abbrev pub pool_of : TableId → RegionView → PoolId
-pool_of table region = record { table = table; region = region }
+abbrev pub pool_id : TableId → RegionView → PoolId
+pool_id table region = record { table = table; region = region }
 
 -- what contracts see of a seat: its pool, how often it found all frames out, and how many frames it took and put back
 pub record PoolSeatView : Type 0 where

@@ -30,11 +30,11 @@ pub struct Pool {
 impl Model for Pool {
     ghost use Rattle.std.specs.Prelude.{◌<◌, ◌≤◌};
     ghost use Rattle.cmm_types.specs.declared.plan.TheConstants.{MAX_FRAMES};
-    ghost use Rattle.frame_pool.specs.Seats.{PoolId, IsWide, pool_of};
+    ghost use Rattle.frame_pool.specs.Seats.{PoolId, IsWide, pool_id};
 
     ghost Value = { PoolId };
 
-    ghost view = { λ p. pool_of p.table.shared.table_id p.table.shared.key };
+    ghost view = { λ p. pool_id p.table.shared.table_id p.table.shared.key };
 
     ghost invariant = { λ p. IsWide p.table.shared.table_id p.table.shared.table_id.slots × (0 < p.table.shared.table_id.slots) × (p.table.shared.table_id.slots ≤ MAX_FRAMES) };
 }
@@ -53,11 +53,11 @@ pub struct PoolSeat {
 }
 
 impl Model for PoolSeat {
-    ghost use Rattle.frame_pool.specs.Seats.{PoolSeatView, IsIdle, pool_of};
+    ghost use Rattle.frame_pool.specs.Seats.{PoolSeatView, IsIdle, pool_id};
 
     ghost Value = { PoolSeatView };
 
-    ghost view = { λ s. record { pool = pool_of s.seat.table_id s.seat.me.0.region; dry = s.seat.me.0.dry; taken = s.seat.me.0.taken; given = s.seat.me.0.given } };
+    ghost view = { λ s. record { pool = pool_id s.seat.table_id s.seat.me.0.region; dry = s.seat.me.0.dry; taken = s.seat.me.0.taken; given = s.seat.me.0.given } };
 
     ghost invariant = { λ s. IsIdle s.seat.me };
 }
@@ -70,11 +70,11 @@ pub struct Loan {
 }
 
 impl Model for Loan {
-    ghost use Rattle.frame_pool.specs.Seats.{LoanView, IsLoan, pool_of};
+    ghost use Rattle.frame_pool.specs.Seats.{LoanView, IsLoan, pool_id};
 
     ghost Value = { LoanView };
 
-    ghost view = { λ l. record { pool = pool_of l.badge.table_id l.frame.region; frame = l.frame } };
+    ghost view = { λ l. record { pool = pool_id l.badge.table_id l.frame.region; frame = l.frame } };
 
     ghost invariant = { λ l. IsLoan l.badge l.frame };
 }
@@ -86,11 +86,11 @@ pub struct PoolMark {
 }
 
 impl Model for PoolMark {
-    ghost use Rattle.frame_pool.specs.Seats.{PoolId, pool_of, sole_view};
+    ghost use Rattle.frame_pool.specs.Seats.{PoolId, pool_id, sole_view};
 
     ghost Value = { PoolId };
 
-    ghost view = { λ m. pool_of m.badge.table_id (sole_view m.badge.views).region };
+    ghost view = { λ m. pool_id m.badge.table_id (sole_view m.badge.views).region };
 }
 
 impl Pool {

@@ -2,7 +2,7 @@ ghost use Rattle.std.specs.Prelude.{◌≡◌, ◌<◌, length, None, Err, IfSom
 ghost use Rattle.cmm_types.specs.declared.page.TheConstants.{PAGE};
 ghost use Rattle.cmm_storage.specs.Program.{Does, DoesAlone};
 ghost use Rattle.guest_rules.specs.Rows.{give_up, fill_touched, fill_with, fill_from, fill};
-ghost use Rattle.guest_rules.specs.Calls.{IsHeld, HasTaken, TakesBytes, CanFill};
+ghost use Rattle.guest_rules.specs.Calls.{IsHeld, HoldsInUse, TakesBytes, CanFill};
 ghost use Rattle.guest_rules.specs.Answers.{IsToBeFilled, FillAnswer};
 
 use cmm_io::Disk;
@@ -15,7 +15,7 @@ use guest_rules::{Filled, Parts};
 /// Frees the held page, which couldn't be filled, and gives it back.
 #[tactic(auto, using(cmm_storage::specs::Runs::runs))]
 fn give_up<St: Storage>(parts: &mut Parts, st: &mut St, page: u32, cause: Cause) -> Filled
-    requires taken { HasTaken parts.old (St.view st.old) page }
+    requires taken { HoldsInUse parts.old (St.view st.old) page }
     ensures row { DoesAlone St.step (give_up parts.old page cause) st.old (parts.new, result) st.new }
     ensures none_held { (St.view st.new).held ≡ None }
 {
@@ -47,7 +47,7 @@ fn fill_with<St: Storage>(parts: &mut Parts, st: &mut St, page: u32, bytes: &[u8
 /// The held page can't be filled now, or not at all.
 #[tactic(auto, using(cmm_storage::specs::Runs::runs))]
 fn miss<St: Storage>(parts: &mut Parts, st: &mut St, page: u32, trap: Trap) -> Filled
-    requires taken { HasTaken parts.old (St.view st.old) page }
+    requires taken { HoldsInUse parts.old (St.view st.old) page }
     ensures row { DoesAlone St.step (fill_touched parts.old page (Err trap)) st.old (parts.new, result) st.new }
     ensures none_held { (St.view st.new).held ≡ None }
 {
@@ -72,7 +72,7 @@ fn fill_from<St: Storage, D: Disk>(
     page: u32,
     block: Option<u32>,
 ) -> Filled
-    requires taken { HasTaken parts.old (St.view st.old) page }
+    requires taken { HoldsInUse parts.old (St.view st.old) page }
     requires block { IfSome block (λ number. number < (D.view disk.old).count) }
     requires bytes { TakesBytes (St.view st.old) page }
     ensures row { Does St.step D.step (fill_from parts.old page block) st.old disk.old (parts.new, result) st.new disk.new }

@@ -5,7 +5,7 @@ ghost use Rattle.cmm_storage.specs.Program.{DoesAlone};
 ghost use Rattle.guest_pages.specs.PagesView.{info_at};
 ghost use Rattle.guest_rules.specs.Hint.{hint};
 ghost use Rattle.guest_rules.specs.Rows.{freed, handler, tell, rehint, make_stable, with_change};
-ghost use Rattle.guest_rules.specs.Calls.{IsInUse, IsHeld, HasTaken};
+ghost use Rattle.guest_rules.specs.Calls.{IsInUse, IsHeld, HoldsInUse};
 ghost use Rattle.guest_rules.specs.Answers.{IsFree, IsHandled, CanBeTold, IsRetold, StableAnswer};
 
 use crate::hint::hint_of;
@@ -41,7 +41,7 @@ pub fn forget(parts: &mut Parts, page: u32)
 /// The handler, as its program says.
 #[tactic(auto, unfolding(guest_rules::specs::Rows::handler, guest_rules::specs::Rows::handled))]
 fn run_discard_handler<St: Storage>(parts: &mut Parts, st: &mut St, page: u32)
-    requires taken { HasTaken parts.old (St.view st.old) page }
+    requires taken { HoldsInUse parts.old (St.view st.old) page }
     ensures row { DoesAlone St.step (handler parts.old page) st.old parts.new st.new }
     ensures held { (St.view st.new).held ≡ Some page }
 {
@@ -53,7 +53,7 @@ fn run_discard_handler<St: Storage>(parts: &mut Parts, st: &mut St, page: u32)
 /// The handler of a held page that was discarded: the page is free, and the host is told that it is unused. One
 /// fault is counted.
 pub fn discard_handler<St: Storage>(parts: &mut Parts, st: &mut St, page: u32)
-    requires taken { HasTaken parts.old (St.view st.old) page }
+    requires taken { HoldsInUse parts.old (St.view st.old) page }
     ensures row { DoesAlone St.step (handler parts.old page) st.old parts.new st.new }
     ensures held { (St.view st.new).held ≡ Some page }
     ensures answer { IsHandled parts.old page parts.new (St.view st.new) }
@@ -118,7 +118,7 @@ pub fn rehint<St: Storage>(parts: &mut Parts, st: &mut St, page: u32)
 /// The order, as its program says.
 #[tactic(auto, using(cmm_storage::specs::Runs::runs), unfolding(guest_rules::specs::Rows::make_stable))]
 fn run_make_stable<St: Storage>(parts: &mut Parts, st: &mut St, page: u32) -> Result<(), Gone>
-    requires taken { HasTaken parts.old (St.view st.old) page }
+    requires taken { HoldsInUse parts.old (St.view st.old) page }
     ensures row { DoesAlone St.step (make_stable parts.old page) st.old (parts.new, result) st.new }
     ensures held { (St.view st.new).held ≡ Some page }
     ensures stable { OnOk result (((St.view st.new).values page).usage ≡ S) }
@@ -134,7 +134,7 @@ fn run_make_stable<St: Storage>(parts: &mut Parts, st: &mut St, page: u32) -> Re
 
 /// Makes a held page stable. A page that was discarded goes through its handler; `Gone` comes exactly there.
 pub fn make_stable<St: Storage>(parts: &mut Parts, st: &mut St, page: u32) -> Result<(), Gone>
-    requires taken { HasTaken parts.old (St.view st.old) page }
+    requires taken { HoldsInUse parts.old (St.view st.old) page }
     ensures row { DoesAlone St.step (make_stable parts.old page) st.old (parts.new, result) st.new }
     ensures held { (St.view st.new).held ≡ Some page }
     ensures stable { OnOk result (((St.view st.new).values page).usage ≡ S) }

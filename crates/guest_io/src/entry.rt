@@ -3,7 +3,7 @@ ghost use Rattle.std.specs.Prelude.{◌≡◌, ◌≤◌, ◌+◌, length, None}
 ghost use Rattle.cmm_types.specs.declared.page.TheConstants.{PAGE};
 ghost use Rattle.cmm_storage.specs.Program.{DoesAlone};
 ghost use Rattle.guest_rules.specs.Rows.{touch_missed, load_page, store_through};
-ghost use Rattle.guest_rules.specs.Calls.{HasTaken, CanLoad, CanStore, IsInPage};
+ghost use Rattle.guest_rules.specs.Calls.{HoldsInUse, CanLoad, CanStore, IsInPage};
 ghost use Rattle.guest_rules.specs.Answers.{HasBeenFilled, LoadAnswer, StoreAnswer};
 
 use crate::read::fetch;
@@ -15,7 +15,7 @@ use guest_rules::{Missed, Parts};
 /// The touch of the held page failed: a page that was discarded goes through its handler. The page is given back.
 #[tactic(auto, using(cmm_storage::specs::Runs::runs))]
 fn miss<R, St: Storage>(parts: &mut Parts, st: &mut St, page: u32, trap: Trap) -> Result<R, Missed>
-    requires taken { HasTaken parts.old (St.view st.old) page }
+    requires taken { HoldsInUse parts.old (St.view st.old) page }
     ensures row { DoesAlone St.step (touch_missed page parts.old trap) st.old (parts.new, result) st.new }
     ensures none_held { (St.view st.new).held ≡ None }
 {

@@ -3,7 +3,7 @@ ghost use Rattle.cmm_types.specs.declared.page.Tag.TheVariants.{Anon};
 ghost use Rattle.cmm_storage.specs.Program.{DoesAlone};
 ghost use Rattle.guest_pages.specs.PagesView.{info_at};
 ghost use Rattle.guest_cache.specs.CacheView.{IsTag};
-ghost use Rattle.guest_rules.specs.Calls.{HasTaken, CanTake, CanMakeRoom};
+ghost use Rattle.guest_rules.specs.Calls.{HoldsInUse, CanTake, CanMakeRoom};
 ghost use Rattle.guest_rules.specs.MakeRoom.{first_to_go, first_locked, with_swap_slot, locked_to_go, behind, go_known, none_goes, room_from, make_room};
 ghost use Rattle.guest_rules.specs.Answers.{CanBeWrittenOut, RoomAnswer};
 ghost use Rattle.guest_reclaim.specs.Sought.{HasTags};
@@ -65,7 +65,7 @@ fn pass(parts: &mut Parts, page: u32)
 /// processor. It is given back.
 #[tactic(auto, using(cmm_storage::specs::Runs::runs))]
 fn let_go<St: Storage>(parts: &mut Parts, st: &mut St, cpu: u32, page: u32) -> Room
-    requires taken { HasTaken parts.old (St.view st.old) page }
+    requires taken { HoldsInUse parts.old (St.view st.old) page }
     ensures row { DoesAlone St.step (go_known page cpu parts.old (info_at parts.old.pages page).dirty) st.old (parts.new, result) st.new }
     ensures none_held { (St.view st.new).held ≡ None }
 {

@@ -32,7 +32,7 @@ pub record IsHeld (parts : Parts) (v : StorageView) (page : ℕ) : Type 0 where
   pub held : v.held ≡ Some page
 
 -- a page in use is held
-pub record HasTaken (parts : Parts) (v : StorageView) (page : ℕ) : Type 0 where
+pub record HoldsInUse (parts : Parts) (v : StorageView) (page : ℕ) : Type 0 where
   pub in_use : IsInUse parts page
   pub held : v.held ≡ Some page
 

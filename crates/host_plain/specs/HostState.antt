@@ -150,8 +150,8 @@ abbrev pub served : HostState → ℕ → HostState
 served h guest = record h { guest = guest }
 
 -- the words of a guest's pages
-abbrev pub words_of : HostState → ℕ → List Fields
-words_of h guest = take (pages_of h guest) (drop (first_place h guest) h.memory.words)
+abbrev pub guest_words : HostState → ℕ → List Fields
+guest_words h guest = take (pages_of h guest) (drop (first_place h guest) h.memory.words)
 
 -- the host's own move on a page of a guest, by its own pager
 abbrev pub move_of : HostState → ℕ → ℕ → Move → Applied

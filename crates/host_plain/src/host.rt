@@ -8,7 +8,7 @@ ghost use Rattle.page_arena.specs.FrameView.{IsOf, missing};
 ghost use Rattle.host_plain.specs.MemoryState.{resident_of};
 ghost use Rattle.host_plain.specs.Keeping.{faults_of};
 ghost use Rattle.host_plain.specs.Served.{host_of};
-ghost use Rattle.host_plain.specs.HostState.{HostState, IsHost, Serves, HaveOwnFrames, host_word, list_place, first_place, pages_of, pager_of, words_of, served, HostMayMake, ApplyTells, host_opening, starts_of, after_move, move_of, after_reclaim, reclaim_of};
+ghost use Rattle.host_plain.specs.HostState.{HostState, IsHost, Serves, HaveOwnFrames, host_word, list_place, first_place, pages_of, pager_of, guest_words, served, HostMayMake, ApplyTells, host_opening, starts_of, after_move, move_of, after_reclaim, reclaim_of};
 
 use crate::memory::Memory;
 use crate::moves::{ApplyError, Reclaim};
@@ -147,7 +147,7 @@ impl Host {
     /// The state words of a guest's pages.
     pub fn words(&self, guest: u32) -> &[Word]
         requires { guest < length self.now.pagers }
-        ensures words { result.now ≡ words_of self.now guest }
+        ensures words { result.now ≡ guest_words self.now guest }
         ensures count { length result.now ≡ pages_of self.now guest }
     {
         let guest = guest as usize;
