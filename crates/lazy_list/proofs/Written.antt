@@ -26,7 +26,7 @@ put_among ws len place b v above below =
     append_assoc (ws ++ replicate (place - length ws) b) (v ∷ []) (replicate (len - (place + 1)) b)
     ∙ append_assoc ws (replicate (place - length ws) b) (v ∷ replicate (len - (place + 1)) b)
     ∙ sym (set-append_right ws (replicate (len - length ws) b) (length ws) place v refl above
-        ∙ ap (λ xs. ws ++ xs) (set-among (len - length ws) (place - length ws) (len - (place + 1)) b v (omega arith)))
+    ∙ ap (λ xs. ws ++ xs) (set-among (len - length ws) (place - length ws) (len - (place + 1)) b v (omega arith)))
 
 -- it lies among them
 pub set-behind : {X : Type 0} (ws xs : List X) (len place : ℕ) (b v : X) → length ws ≤ place → place < len → xs ≡ (ws ++ replicate (place - length ws) b) ++ v ∷ []
