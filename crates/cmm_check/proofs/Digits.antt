@@ -1,11 +1,12 @@
 -- Digits up to some place of a word, and when a word spells no number.
-use Rattle.std.proofs.Common.{◌≡◌, ℕ, ◌+◌, ◌-◌, ◌*◌, ◌^◌, ◌<◌, ◌≤◌, Bool, true, false, List, None, Some, length, get_or, take, inl, inr, add-one, refl, sym, ap, subst, ◌∙◌}
+use Rattle.std.proofs.Common.{◌≡◌, ℕ, ◌+◌, ◌-◌, ◌*◌, ◌^◌, ◌<◌, ◌≤◌, Bool, true, false, List, None, Some, length, get_or, take, inl, inr, add-one, refl, sym, ap, subst, ◌∙◌, arith}
 use Rattle.std.specs.Prelude.{◌&&◌, nat_lt}
-use Rattle.std.proofs.lemmas.Bool.{cases_lt, lt-ltb, ltb-true}
+use Rattle.std.proofs.lemmas.Bool.{cases_lt, le-ltb, lt-ltb, ltb-true}
 use Rattle.std.proofs.lemmas.List.{take_all}
 use Rattle.std.specs.Char.{is_ascii_digit}
 use Rattle.std.specs.Str.{all_ascii_digits}
 use Rattle.std.specs.Str.Parse.{digits_value}
+use Rattle.std.proofs.lemmas.Str.Parse.{digits_value-take-le}
 use Rattle.cmm_scenario.proofs.Digits.{all_ascii_digits-take, digits_value_next}
 use Rattle.cmm_check.specs.Reading.{given, has_no_leading_zero, long_of}
 
@@ -14,6 +15,12 @@ second_fails true true c h = cc
 second_fails true false c h = refl
 second_fails false true c h = cc
 second_fails false false c h = refl
+
+third_fails : (a b c : Bool) → c ≡ false → (a && b && c) ≡ false
+third_fails true true c h = h
+third_fails true false c h = refl
+third_fails false true c h = refl
+third_fails false false c h = refl
 
 all_hold : (a b c : Bool) → a ≡ true → b ≡ true → c ≡ true → (a && b && c) ≡ true
 all_hold true true true p q r = refl
@@ -32,6 +39,12 @@ is_given false x h = cc
 pub long_of-other : (word : List ℕ) → all_ascii_digits word ≡ false → long_of word ≡ None
 unfolding long_of
 long_of-other word h = not_given _ _ (second_fails (has_no_leading_zero word) (all_ascii_digits word) (nat_lt (digits_value 10 word) (2 ^ 64)) h)
+
+pub long_of-large : (word : List ℕ) (index : ℕ) → 2 ^ 64 ≤ digits_value 10 (take index word) → long_of word ≡ None
+unfolding long_of
+long_of-large word index large =
+    let most = digits_value-take-le 10 word index (omega arith) in
+    not_given _ _ (third_fails (has_no_leading_zero word) (all_ascii_digits word) (nat_lt (digits_value 10 word) (2 ^ 64)) (le-ltb (digits_value 10 word) (2 ^ 64) (omega (arith, most))))
 
 pub long_of-is : (word : List ℕ) → has_no_leading_zero word ≡ true → all_ascii_digits word ≡ true → digits_value 10 word < 2 ^ 64 → long_of word ≡ Some (digits_value 10 word)
 unfolding long_of
