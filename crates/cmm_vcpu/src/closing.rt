@@ -78,14 +78,17 @@ pub(crate) fn close_tables(
     }
 }
 
-/// Closes the region, and answers how many of its frames the list lacks.
+/// Closes the region, and answers how many of its frames the list lacks. A region that lacks some is abandoned.
 pub(crate) fn close_region(region: Region, frames: Vec<Frame>) -> u32
     requires { All (IsOf region) frames.items }
     ensures { result ≡ length (missing region.count frames.items) }
 {
     match region.close(frames) {
         Ok(()) => 0,
-        Err(lacking) => lacking.count,
+        Err(lacking) => {
+            lacking.region.abandon(lacking.frames.into_vec());
+            lacking.count
+        }
     }
 }
 

@@ -5,6 +5,7 @@ ghost use Rattle.cmm_types.specs.declared.page.TheConstants.{PAGE};
 use crate::mark::{Mark, RegionMark};
 use page_pieces::Piece;
 use std::marker::Model;
+use std::mem;
 
 /// A page frame: `PAGE` bytes under a number of its own in its region, which is below `count`, the number of the
 /// region's frames.
@@ -78,6 +79,8 @@ impl Frame {
         self.bytes.bytes_mut()
     }
 
-    /// Spends the frame for good: its region has no such frame again, and can't be closed.
-    pub fn lose(self) {}
+    /// Spends the frame, and keeps its memory for good: its region has no such frame again, and can't be closed.
+    pub fn lose(self) {
+        mem::forget(self);
+    }
 }

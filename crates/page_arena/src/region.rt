@@ -8,6 +8,7 @@ use cmm_types::{Items, MAX_FRAMES};
 use page_pieces::pieces;
 use std::alloc::{AllocError, Global};
 use std::marker::Model;
+use std::mem;
 
 /// The frames 0 to `count - 1`, as a whole.
 #[derive(Drop)]
@@ -75,6 +76,12 @@ impl Region {
                 count: count as u32,
             }),
         }
+    }
+
+    /// Keeps the region's memory for good, with whatever the frames hold: none of it is given out again. No clause can
+    /// say more of values that are spent.
+    pub fn abandon(self, frames: Vec<Frame>) {
+        mem::forget(frames);
     }
 }
 

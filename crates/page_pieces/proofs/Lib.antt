@@ -1,3 +1,6 @@
+pub mod Arcs
+pub mod Claims
+pub mod Crosses
+pub mod Loans
 pub mod Lodges
-pub mod Rooms
 pub mod Shows

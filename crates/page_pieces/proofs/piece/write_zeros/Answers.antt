@@ -1,6 +1,8 @@
-use Rattle.std.proofs.Common.{◌∙◌}
-use Rattle.page_pieces.proofs.Shows.{zeros_written}
+use Rattle.std.proofs.Common.{◌≡◌, length, sym, ◌∙◌, arith}
+use Rattle.page_pieces.proofs.Shows.{nothing_shown}
 use Rattle.page_pieces.proofs.piece.write_zeros.Goals as goal
 
-pub returns-clause-items : goal.returns-clause-items
-returns-clause-items c = c.in-Ok.ensures.items ∙ zeros_written c.args.written.now.items c.args.written.now.len c.args.written.now.ok.0 c.requires.short
+pub returns-then-len-eq0-clause-items : goal.returns-then-len-eq0-clause-items
+returns-then-len-eq0-clause-items c =
+    let none : length c.args.written.now.items ≡ 0 = omega arith
+    in c.zeroed.ensures.items ∙ sym (nothing_shown c.args.written.now.items none)

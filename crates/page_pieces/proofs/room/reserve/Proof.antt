@@ -1,15 +1,12 @@
 -- `reserve` asks the allocator for a row of bytes, and keeps its room. Assumes `Logic`.
-use Rattle.std.proofs.Common.{◌≡◌, ℕ, ◌*◌, ◌^◌, ◌<◌, List, [], ◌∷◌, ◌++◌, true, false, refl, sym, ap, ◌∙◌, subst, arith, lit<}
+use Rattle.std.proofs.Common.{◌≡◌, ℕ, ◌^◌, ◌<◌, List, [], ◌∷◌, ◌++◌, true, false, refl, sym, subst, lit<}
 use seplogic.Ra.Ura.{Ura}
-use mir.Syntax.{Fn, Body, Args, Ty, named, a_type, dcons, dnil, w8, w64, ty_int, ty_array}
+use mir.Syntax.{Fn, Body, named, w64}
 use mir.MapTy.{inst_fn}
-use mir.Val.{Val, vptr, vint, vstruct, vcons, vnil}
-use mir.Raw.{raw as bare}
+use mir.Val.{Val, vptr, vint, vstruct, vcons, vnil, WT}
 use base.Logic.{SProp, ent}
 use base.Fml.{Lft, Share, ftrue, flft, Incl-trans}
-use prog.Memory.{Memory, size, align, capped}
-use prog.Capped.{capped_is}
-use prog.RawLaws.{size-raw, align-raw}
+use prog.Memory.{Memory}
 use prog.Routine.{Routine}
 use prog.Wp.{Wp, Env, Calls, Loops, WpFn, Tables, after_seq, at_return}
 use contract.Monad.{Fun, fact}
@@ -18,7 +15,7 @@ use contract.Running.{tables, tables_of}
 use sound.WpLaws.{WpFn-mono, FmC, fm_of}
 use types.Logic.{Logic}
 use types.Kit.{Post as After, any_q, Item, ⋆, ‵, raw, ◌⊛◌, later, await, at_ret, ◌$◌, ◌∵◌, !, qed, by}
-use types.Kit.{move, keep, drop, use1, use2, split, join, fsplit, fsplit3, fjoin, feq_l, feq_i, flt_l, suffices, frame, done}
+use types.Kit.{move, keep, use1, use2, split, join, fsplit, fsplit3, fjoin, feq_l, feq_i, flt_l, suffices, frame, done}
 use types.Part.{whole, agg}
 use types.Match.{live, vrt, in_variant}
 use types.Run.{stop, fld, lit, of_opd, and_then, no_more, first, exec, returns, enter, switches_on}
@@ -26,7 +23,6 @@ use types.ByLocal.{alloc_all, pass_all, free_all, look_at, get, get_in, get_tag,
 use denote.Exit.{yes}
 use denote.RattleType.{RattleType, owns}
 use denote.Memory.{hidden_shr}
-use denote.Param.{param, bounded}
 use denote.RawPtr.{Ptr, RawPtr, InBlock, block_ptr}
 use denote.Ref.{Bor, ShrRef}
 use denote.Builtin.{RefOf, usize}
@@ -49,32 +45,17 @@ use Rattle.core.specs.contracts.alloc.AllocError as AE
 use Rattle.core.proofs.alloc.Calls.{Al, Answer-typed, takes_key, Takes, at_takes, Answered, Takes-goes, Takes-gives, answers}
 use Rattle.std_alloc.proofs.VecSteps.Shapes.{after, head, arm_body}
 use Rattle.std_alloc.proofs.ResultValues.{ok_of, err_of}
-use Rattle.bytes.proofs.Walks.{none, two, none_made, two_made}
+use Rattle.bytes.proofs.Walks.{none, none_made}
 use Rattle.page_pieces.specs.contracts.room.Room as Room
+use Rattle.page_pieces.proofs.Claims.{row_ty, row_size, row_align, claim_val, three, three_made, args, P, Claimed, made, claim_made}
 use Rattle.page_pieces.specs.contracts.room.reserve as F
 use Rattle.page_pieces.specs.contracts.room.reserve.Key.{name as #self}
 use Rattle.page_pieces.proofs.room.reserve.Statement as stated
 use Rattle.page_pieces.proofs.room.reserve.Code as code
 
--- the type that a block of n bytes is for
-abbrev row_ty : ℕ → Ty
-row_ty n = bare (ty_array (ty_int w8) n)
-
-row_size : (n : ℕ) → n < 2 ^ 64 → capped (size (row_ty n)) ≡ n
-row_size n fits = let one : n * 1 ≡ n = omega arith in ap capped (size-raw (ty_array (ty_int w8) n)) ∙ ap capped one ∙ capped_is n fits
-
-row_align : (n : ℕ) → capped (align (row_ty n)) ≡ 1
-row_align n = ap capped (align-raw (ty_array (ty_int w8) n))
-
 module _ (Z : Al) where
-  abbrev args : Args
-  args = bounded (a_type ∷ []) (Z.row, tt) (dcons Z.d (dcons Z.drops dnil))
-
-  abbrev P : RattleType
-  P = param 0 Z.row
-
   abbrev function : Fn
-  function = inst_fn args code.function
+  function = inst_fn (args Z) code.function
 
   abbrev ended : Ended
   ended = F.ended Z.row Z.g Z.d Z.drops
@@ -82,14 +63,14 @@ module _ (Z : Al) where
   abbrev clauses : {M : Type 1} {𝓤 : Ura M} (𝓛 : Logic 𝓤) → (Memory → SProp 𝓤) → (Routine → Fun 𝓤) → Clauses 𝓤 ended
   clauses 𝓛 = F.clauses Z.row Z.g Z.d Z.drops 𝓛
 
+  abbrev Triplet : RattleType
+  Triplet = Tuple (RawPtr ∷ Room.the_row ∷ Claimed Z ∷ [])
+
+  abbrev Out : RattleType
+  Out = RS.the_row Triplet AE.the_row
+
   abbrev stayed : Stays ended.signature.params ended.kept
-  stayed = (stay_dropped (RefOf (0 ∷ []) tt (plain (λ _. P)) (λ _. tt)) yes, (stay_dropped (plain (λ _. usize)) yes, tt))
-
-abbrev Pair : RattleType
-Pair = Tuple (RawPtr ∷ Room.the_row ∷ [])
-
-abbrev Out : RattleType
-Out = RS.the_row Pair AE.the_row
+  stayed = (stay_dropped (RefOf (0 ∷ []) tt (plain (λ _. P Z)) (λ _. tt)) yes, (stay_dropped (plain (λ _. usize)) yes, tt))
 
 module _ (Z : Al) {M : Type 1} {𝓤 : Ura M} (𝓛 : Logic 𝓤) (at_mem : Memory → SProp 𝓤) (run : Routine → Fun 𝓤) (C : Calls 𝓤 𝓛.H) (Λ : Loops 𝓤 𝓛.H)
     (fm : FmC 𝓤 𝓛.H 𝓛.laws C) (callee : Triple 𝓤 (C (takes_key Z)) (Takes Z 𝓛 at_mem run))
@@ -108,10 +89,10 @@ module _ (Z : Al) {M : Type 1} {𝓤 : Ura M} (𝓛 : Logic 𝓤) (at_mem : Memo
   abbrev Post : Val → SProp 𝓤
   Post = (walk_of 𝓛 (ended Z) (stayed Z) (clauses Z 𝓛 at_mem run)).post bound
 
-  exits : (r : Out.Denot) (v : Val) → IfOk r (λ made. InBlock made.0 × (made.1.ptr ≡ made.0) × (made.1.len ≡ len))
-      → ent 𝓤 (⋆ 𝓛 (‵ (Out.own_val r (v ∷ [])) ∷ ‵ (flft κ q) ∷ others ∷ [])) (Post v)
+  exits : (r : (Out Z).Denot) (v : Val) → IfOk r (λ made. InBlock made.0 × (made.1.ptr ≡ made.0) × (made.1.len ≡ len) × (made.2.ptr ≡ made.0) × (made.2.len ≡ len) × (made.2.alloc ≡ a))
+      → ent 𝓤 (⋆ 𝓛 (‵ ((Out Z).own_val r (v ∷ [])) ∷ ‵ (flft κ q) ∷ others ∷ [])) (Post v)
   exits r v g =
-      qed 𝓛 (‵ (Out.own_val r (v ∷ [])) ∷ ‵ (flft κ q) ∷ others ∷ []) ∵
+      qed 𝓛 (‵ ((Out Z).own_val r (v ∷ [])) ∷ ‵ (flft κ q) ∷ others ∷ []) ∵
       suffices ! _ (ends_at 𝓛 (ended Z) (stayed Z) (clauses Z 𝓛 at_mem run) bound v r (tt, (tt, tt)) (tt, (tt, tt))) $ says ! g $
       move ! (1 ∷ 2 ∷ []) $ join ! $ frame ! $ nothing ! $ nothing ! $ fjoin ! $ nothing ! $ fjoin ! $ done !
 
@@ -132,16 +113,23 @@ module _ (Z : Al) {M : Type 1} {𝓤 : Ura M} (𝓛 : Logic 𝓤) (at_mem : Memo
       (λ b o e.
       let p : Ptr = block_ptr b o in
       let room : (Room.the_row).Denot = record { ptr = p; len = len } in
-      let made : Val = two (vptr b o) none in
+      let mine : (Claimed Z).Denot = made Z a b o len in
+      let claim : Val = claim_val p len in
+      let all : Val = three (vptr b o) none claim in
+      let words : WT claim = (tt, (record { fits = fits }, (tt, tt))) in
+      let good : WT (live 0 (vcons all vnil)) = (record { fits = lit< tt }, ((tt, (tt, (words, tt))), tt)) in
       lands_as ! e refl (Answer-typed true b o) $ first ! $ switches_on ! (get_tag ! (vrt ! refl (fld ! refl (stop !))) (whole !)) $ exec ! C Λ En (arm_body 0 both) Then $
       sets ! (of_opd ! (get_in ! (vrt ! refl (fld ! refl (stop !))) (in_variant ! 0 0 refl refl (whole !)))) refl (tt, tt) $
       sets ! (agg ! (no_more !)) refl (tt, tt) $
-      sets ! (agg ! (and_then ! (get ! refl) (and_then ! (get ! refl) (no_more !)))) refl (tt, (tt, (tt, tt))) $
-      sets_last ! (agg ! (and_then ! (lit ! tt) (and_then ! (get ! refl) (no_more !)))) refl (tt, (record { fits = lit< tt }, ((tt, (tt, tt)), tt))) $
-      exec ! C Λ En (after 2 (function Z).body) (at_ret En Post) $ sets ! (of_opd ! (get ! refl)) refl (tt, (record { fits = lit< tt }, ((tt, (tt, tt)), tt))) $
-      move ! (1 ∷ []) $ drop ! $ none_made ! $ fjoin ! $ feq_i ! (List Val) (vptr b o ∷ []) (vptr b o ∷ []) refl $ two_made ! RawPtr Room.the_row p room (vptr b o) none $
-      use1 𝓛 (‵ (Out.own_val (Ok (p, room)) (live 0 (vcons made vnil) ∷ []))) (ok_of 𝓛 Pair AE.the_row (p, room) made) $
-      returns ! (look_at ! 0 refl) $ free_all ! refl $ keep ! (0 ∷ 1 ∷ 2 ∷ []) $ by ! (exits (Ok (p, room)) (live 0 (vcons made vnil)) (tt, refl, refl)))
+      sets ! (agg ! (no_more !)) refl (tt, tt) $
+      sets ! (agg ! (and_then ! (get ! refl) (and_then ! (get ! refl) (and_then ! (get ! refl) (no_more !))))) refl (tt, words) $
+      sets ! (agg ! (and_then ! (get ! refl) (and_then ! (get ! refl) (and_then ! (get ! refl) (no_more !))))) refl (tt, (tt, (tt, (words, tt)))) $
+      sets_last ! (agg ! (and_then ! (lit ! tt) (and_then ! (get ! refl) (no_more !)))) refl (tt, good) $
+      exec ! C Λ En (after 2 (function Z).body) (at_ret En Post) $ sets ! (of_opd ! (get ! refl)) refl (tt, good) $
+      move ! (1 ∷ []) $ claim_made Z ! a b o len fits $ move ! (1 ∷ []) $ none_made ! $ fjoin ! $ feq_i ! (List Val) (vptr b o ∷ []) (vptr b o ∷ []) refl $
+      three_made ! RawPtr Room.the_row (Claimed Z) p room mine (vptr b o) none claim $
+      use1 𝓛 (‵ ((Out Z).own_val (Ok (p, room, mine)) (live 0 (vcons all vnil) ∷ []))) (ok_of 𝓛 (Triplet Z) AE.the_row (p, room, mine) all) $
+      returns ! (look_at ! 0 refl) $ free_all ! refl $ keep ! (0 ∷ 1 ∷ 2 ∷ []) $ by ! (exits (Ok (p, room, mine)) (live 0 (vcons all vnil)) (tt, refl, refl, refl, refl, refl)))
       (λ e.
       let Refusal : RattleType = Struct (Declared.shape AE.the_type) in
       let refused : Val = live 1 (vcons (vstruct vnil) vnil) in
@@ -150,7 +138,7 @@ module _ (Z : Al) {M : Type 1} {𝓤 : Ura M} (𝓛 : Logic 𝓤) (at_mem : Memo
       sets_last ! (agg ! (and_then ! (lit ! tt) (and_then ! (get ! refl) (no_more !)))) refl (tt, (record { fits = lit< tt }, (tt, tt))) $
       exec ! C Λ En (after 2 (function Z).body) (at_ret En Post) $ sets ! (of_opd ! (get ! refl)) refl (tt, (record { fits = lit< tt }, (tt, tt))) $
       owned ! Refusal (Is Refusal) (Struct-Makes 𝓛 (Declared.shape AE.the_type) tt) tt (vstruct vnil ∷ []) (tt, (refl, tt)) $
-      use1 𝓛 (‵ (Out.own_val (Err (record {})) (refused ∷ []))) (err_of 𝓛 Pair AE.the_row (record {}) (vstruct vnil)) $
+      use1 𝓛 (‵ ((Out Z).own_val (Err (record {})) (refused ∷ []))) (err_of 𝓛 (Triplet Z) AE.the_row (record {}) (vstruct vnil)) $
       returns ! (look_at ! 0 refl) $ free_all ! refl $ keep ! (0 ∷ 1 ∷ 2 ∷ []) $ by ! (exits (Err (record {})) refused tt))))
 
   entry : ent 𝓤 (on_entry 𝓛 (ended Z).signature (κ, (κ₁, tt)) (q, (q₁, tt)) (self, (len, tt)) (us0, (us1, tt))) (WpFn 𝓤 H C Λ (function Z) (us0 ++ (us1 ++ [])) Post)

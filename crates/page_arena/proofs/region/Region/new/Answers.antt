@@ -1,4 +1,4 @@
-use Rattle.std.proofs.Common.{◌≡◌, ℕ, suc, refl, ◌+◌, ◌<◌, List, [], ◌∷◌, length, replicate, All, subst, zero-add, arith}
+use Rattle.std.proofs.Common.{◌≡◌, ℕ, suc, refl, ◌+◌, List, [], ◌∷◌, replicate, All, subst, zero-add, arith}
 use Rattle.std.proofs.lemmas.List.FromFn.{map-range_with_len_more}
 use Rattle.std.specs.Vec.Iter.{into_iter_items}
 use Rattle.cmm_types.specs.declared.page.TheConstants.{PAGE}

@@ -1,8 +1,8 @@
--- `cut` parts the room. Assumes `Logic`.
-use Rattle.std.proofs.Common.{◌-◌, ◌≤◌, List, [], ◌∷◌, ◌++◌, refl}
+-- `cut` parts the loans. Assumes `Logic`.
+use Rattle.std.proofs.Common.{◌+◌, ◌-◌, ◌<◌, ◌≡◌, List, [], ◌∷◌, ◌++◌, refl, arith}
 use seplogic.Ra.Ura.{Ura}
-use mir.Syntax.{Fn, w64}
-use mir.Val.{Val, vint}
+use mir.Syntax.{Fn}
+use mir.Val.{Val}
 use base.Logic.{SProp, ent}
 use prog.Memory.{Memory}
 use prog.Routine.{Routine}
@@ -11,13 +11,12 @@ use contract.Monad.{Fun, fact}
 use contract.Running.{tables, tables_of}
 use sound.WpLaws.{WpFn-mono}
 use types.Logic.{Logic}
-use types.Kit.{‵, raw, ◌⊛◌, prop, ◌$◌, ◌∵◌, !, qed, move, drop, use1, split, fsplit, fjoin, feq_l, regoal, suffices, done, flt_l}
+use types.Kit.{‵, raw, ◌⊛◌, prop, ◌$◌, ◌∵◌, !, qed, move, drop, use1, split, fsplit, fjoin, regoal, suffices, done}
 use types.Part.{agg}
 use types.Run.{enter, returns, and_then, no_more}
 use types.ByLocal.{alloc_all, pass_all, free_all, look_at, get, sets}
 use denote.Exit.{yes}
 use denote.RattleType.{owns}
-use denote.Builtin.{usize}
 use denote.RawPtr.{◌+ₚ◌}
 use denote.Signature.{plain, types_at}
 use denote.Steps.{nothing, heard}
@@ -28,13 +27,15 @@ use denote.Triple.Table.{entered}
 use denote.Triple.Walked.{says, Stays, stay_dropped, walk_of, ends_at, walk_Meets}
 use Rattle.std.proofs.alloc.Calls.{Goes-blank}
 use Rattle.bytes.proofs.Walks.{none, two, none_made, two_made, none_had}
-use Rattle.page_pieces.specs.contracts.room.Room as Room
-use Rattle.page_pieces.specs.Ownership.{room_owns}
-use Rattle.page_pieces.proofs.Rooms.{cut_room}
-use Rattle.page_pieces.specs.contracts.room.cut as F
-use Rattle.page_pieces.specs.contracts.room.cut.Key.{name as #self}
-use Rattle.page_pieces.proofs.room.cut.Statement as stated
-use Rattle.page_pieces.proofs.room.cut.Code as code
+use Rattle.cmm_types.specs.declared.page.TheConstants.{PAGE}
+use Rattle.page_pieces.specs.contracts.block.Page as Page
+use Rattle.page_pieces.specs.contracts.block.Pages as Pages
+use Rattle.page_pieces.specs.Ownership.{page_owns, pages_owns}
+use Rattle.page_pieces.proofs.Loans.{part_pages}
+use Rattle.page_pieces.specs.contracts.block.Pages.cut as F
+use Rattle.page_pieces.specs.contracts.block.Pages.cut.Key.{name as #self}
+use Rattle.page_pieces.proofs.block.Pages.cut.Statement as stated
+use Rattle.page_pieces.proofs.block.Pages.cut.Code as code
 
 abbrev function : Fn
 function = code.function
@@ -43,7 +44,7 @@ abbrev ended : Ended
 ended = F.ended
 
 abbrev stayed : Stays ended.signature.params ended.kept
-stayed = (stay_dropped (plain (λ _. Room.the_row)) yes, (stay_dropped (plain (λ _. usize)) yes, tt))
+stayed = (stay_dropped (plain (λ _. Pages.the_row)) yes, tt)
 
 module _ {M : Type 1} {𝓤 : Ura M} (𝓛 : Logic 𝓤) (at_mem : Memory → SProp 𝓤) (run : Routine → Fun 𝓤) where
   open 𝓛 use {H}
@@ -63,28 +64,26 @@ module _ {M : Type 1} {𝓤 : Ura M} (𝓛 : Logic 𝓤) (at_mem : Memory → SP
         let a = z.0.3 in
         let vss = z.0.4 in
         let s = a.0 in
-        let n = a.1.0 in
-        let front : (Room.the_row).Denot = record { ptr = s.ptr; len = n } in
-        let back : (Room.the_row).Denot = record { ptr = s.ptr +ₚ n; len = s.len - n } in
-        let Asked = n ≤ s.len in
+        let first : (Page.the_row).Denot = record { life = s.life; ptr = s.ptr } in
+        let behind : (Pages.the_row).Denot = record { life = s.life; count = s.count - 1; ptr = s.ptr +ₚ PAGE } in
+        let Asked = 0 < s.count in
         qed 𝓛 ((raw toks ⊛ ‵ (owns (types_at ended.signature.params z.0.0) a vss)) ∷ raw (fact 𝓤 Asked) ∷ []) ∵
-        move ! (1 ∷ []) $ heard ! Asked (λ asked. split ! $ move ! (1 ∷ []) $
-        fsplit ! $ fsplit ! $ none_had ! vss.0 (λ is₀. move ! (1 ∷ []) $ fsplit ! $ fsplit ! $ feq_l ! (λ is₁. flt_l ! (λ fits. drop ! $
-        regoal ! (λ (us : List Val). prop (WpFn 𝓤 H C Λ function (us ++ (vss.1.0 ++ [])) Post)) is₀ refl $
-        regoal ! (λ (us : List Val). prop (WpFn 𝓤 H C Λ function ((none ∷ []) ++ (us ++ [])) Post)) is₁ refl $
-        enter ! C Λ function (none ∷ vint w64 n ∷ []) Post $ alloc_all ! (λ l. pass_all ! refl ((tt, tt), ((tt, record { fits = fits }), tt)) $
+        move ! (1 ∷ []) $ heard ! Asked (λ asked. let counted : s.count - 1 + 1 ≡ s.count = omega arith in split ! $ move ! (1 ∷ []) $
+        fsplit ! $ fsplit ! $ none_had ! vss.0 (λ is. move ! (1 ∷ []) $ drop ! $
+        regoal ! (λ (us : List Val). prop (WpFn 𝓤 H C Λ function (us ++ []) Post)) is refl $
+        enter ! C Λ function (none ∷ []) Post $ alloc_all ! (λ l. pass_all ! refl ((tt, tt), tt) $
         sets ! (agg ! (no_more !)) refl (tt, tt) $
         sets ! (agg ! (no_more !)) refl (tt, tt) $
         sets ! (agg ! (and_then ! (get ! refl) (and_then ! (get ! refl) (no_more !)))) refl (tt, (tt, (tt, tt))) $
-        use1 𝓛 (‵ (room_owns s.ptr n) ⊛ ‵ (room_owns (s.ptr +ₚ n) (s.len - n))) (cut_room 𝓛 s.ptr s.len n asked) $ split ! $
-        none_made ! $ fjoin ! $ move ! (1 ∷ []) $ none_made ! $ fjoin ! $ move ! (1 ∷ 0 ∷ []) $ two_made ! Room.the_row Room.the_row front back none none $
+        use1 𝓛 (‵ (page_owns s.life s.ptr) ⊛ ‵ (pages_owns s.life (s.count - 1) (s.ptr +ₚ PAGE))) (part_pages 𝓛 s.life s.count s.ptr asked) $ split ! $
+        none_made ! $ fjoin ! $ move ! (1 ∷ []) $ none_made ! $ fjoin ! $ move ! (1 ∷ 0 ∷ []) $ two_made ! Page.the_row Pages.the_row first behind none none $
         returns ! (look_at ! 0 refl) $ free_all ! refl $
-        suffices ! _ (ends_at 𝓛 ended stayed held z (two none none) (front, back) (tt, (tt, tt)) (tt, (tt, tt))) $ says ! (refl, refl, refl, refl) $
-        nothing ! $ nothing ! $ fjoin ! $ nothing ! $ fjoin ! $ move ! (2 ∷ 0 ∷ 1 ∷ []) $ done !)))))
+        suffices ! _ (ends_at 𝓛 ended stayed held z (two none none) (first, behind) (tt, tt) (tt, tt)) $ says ! (refl, refl, refl, counted, refl) $
+        nothing ! $ nothing ! $ fjoin ! $ move ! (2 ∷ 0 ∷ 1 ∷ []) $ done !)))
 
   meets : (𝓣 : Tables 𝓤 H) → Meets 𝓛 ended.signature (WpFn 𝓤 H 𝓣.C 𝓣.Λ function) (closing 𝓛 ended held)
   meets 𝓣 =
-      walk_Meets 𝓛 ended stayed (Goes-blank 𝓛 0 (plain (λ _. Room.the_row)) yes (λ κs x f. tt), (Goes-blank 𝓛 0 (plain (λ _. usize)) yes (λ κs x f. tt), tt)) held
+      walk_Meets 𝓛 ended stayed (Goes-blank 𝓛 0 (plain (λ _. Pages.the_row)) yes (λ κs x f. tt), tt) held
       (WpFn 𝓤 H 𝓣.C 𝓣.Λ function) (WpFn-mono 𝓤 H 𝓛.laws 𝓣 function) (walks 𝓣.C 𝓣.Λ)
 
 pub cut_spec : {M : Type 1} → stated.statement M
