@@ -10,9 +10,9 @@ use std::marker::Model;
 #[cfg(test)]
 mod tests;
 
-const BLOCK: usize = 64;
+const BLOCK: usize = 32;
 
-const GROUP: usize = 4096;
+const GROUP: usize = 1024;
 
 /// Which of a list's places are marked. Contracts see it as a list of `bool`s.
 #[derive(Drop)]
@@ -37,7 +37,7 @@ impl Model for Marks {
 
 // The count of one more, or of one fewer.
 fn recounted(count: u32, more: bool) -> u32
-    requires { count ≤ 4096 }
+    requires { count ≤ 1024 }
     ensures { result ≡ recounted count more }
 {
     if more {

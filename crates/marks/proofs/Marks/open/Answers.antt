@@ -6,9 +6,9 @@ use Rattle.marks.proofs.Marks.open.Goals as goal
 pub invariant_of-result : goal.invariant_of-result
 invariant_of-result c =
     let marks : c.in_ok-vec.field-0.items ≡ replicate c.args.places false = c.in_ok-vec.ensures.items_if_clones_equal (λ y h. h) in
-    let blocks : c.in_ok-vec-2.field-0.items ≡ replicate (c.args.places / 64 + 1) 0 = c.in_ok-vec-2.ensures.items_if_clones_equal (λ y h. h) in
-    let groups : c.in_ok-vec-3.field-0.items ≡ replicate (c.args.places / 4096 + 1) 0 = c.in_ok-vec-3.ensures.items_if_clones_equal (λ y h. h) in (
-      rw (marks, blocks) (opening-counts 64 c.args.places (c.args.places / 64 + 1) (omega arith)),
-      rw (marks, groups) (opening-counts 4096 c.args.places (c.args.places / 4096 + 1) (omega arith)),
+    let blocks : c.in_ok-vec-2.field-0.items ≡ replicate (c.args.places / 32 + 1) 0 = c.in_ok-vec-2.ensures.items_if_clones_equal (λ y h. h) in
+    let groups : c.in_ok-vec-3.field-0.items ≡ replicate (c.args.places / 1024 + 1) 0 = c.in_ok-vec-3.ensures.items_if_clones_equal (λ y h. h) in (
+      rw (marks, blocks) (opening-counts 32 c.args.places (c.args.places / 32 + 1) (omega arith)),
+      rw (marks, groups) (opening-counts 1024 c.args.places (c.args.places / 1024 + 1) (omega arith)),
       rw (marks, length-replicate c.args.places false) c.requires,
     )

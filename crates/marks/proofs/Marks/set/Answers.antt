@@ -17,37 +17,37 @@ returns-then-index-mark c =
 pub recounted-requires : goal.recounted-requires
 recounted-requires c =
     let below : c.args.place < length c.self.inside.marks.items = search rules in
-    let inside : c.args.place / 64 < length c.self.inside.blocks.items = omega (arith, below, c.self.invariant.0.all) in
-    let at : c.index-2.result.now ≡ slice_index_or c.self.inside.blocks.items (c.args.place / 64) 0 =
-    c.index-2.ensures ∙ get_or_default c.self.inside.blocks.items (c.args.place / 64) c.index-2.result.now 0 inside in
-    rw at (count-most 64 c.self.inside.marks.items c.self.inside.blocks.items (c.args.place / 64) 4096 c.self.invariant.0 inside (lit≤ tt))
+    let inside : c.args.place / 32 < length c.self.inside.blocks.items = omega (arith, below, c.self.invariant.0.all) in
+    let at : c.index-2.result.now ≡ slice_index_or c.self.inside.blocks.items (c.args.place / 32) 0 =
+    c.index-2.ensures ∙ get_or_default c.self.inside.blocks.items (c.args.place / 32) c.index-2.result.now 0 inside in
+    rw at (count-most 32 c.self.inside.marks.items c.self.inside.blocks.items (c.args.place / 32) 1024 c.self.invariant.0 inside (lit≤ tt))
 
 pub recounted-requires-2 : goal.recounted-requires-2
 recounted-requires-2 c =
     let below : c.args.place < length c.self.inside.marks.items = search rules in
-    let inside : c.args.place / 4096 < length c.self.inside.groups.items = omega (arith, below, c.self.invariant.1.all) in
-    let at : c.index-3.result.now ≡ slice_index_or c.self.inside.groups.items (c.args.place / 4096) 0 =
-    c.index-3.ensures ∙ get_or_default c.self.inside.groups.items (c.args.place / 4096) c.index-3.result.now 0 inside in
-    rw at (count-most 4096 c.self.inside.marks.items c.self.inside.groups.items (c.args.place / 4096) 4096 c.self.invariant.1 inside (lit≤ tt))
+    let inside : c.args.place / 1024 < length c.self.inside.groups.items = omega (arith, below, c.self.invariant.1.all) in
+    let at : c.index-3.result.now ≡ slice_index_or c.self.inside.groups.items (c.args.place / 1024) 0 =
+    c.index-3.ensures ∙ get_or_default c.self.inside.groups.items (c.args.place / 1024) c.index-3.result.now 0 inside in
+    rw at (count-most 1024 c.self.inside.marks.items c.self.inside.groups.items (c.args.place / 1024) 1024 c.self.invariant.1 inside (lit≤ tt))
 
 pub invariant_of-self : goal.invariant_of-self
 invariant_of-self c =
     let below : c.args.place < length c.self.inside.marks.items = search rules in
-    let block : c.args.place / 64 < length c.self.inside.blocks.items = omega (arith, below, c.self.invariant.0.all) in
-    let group : c.args.place / 4096 < length c.self.inside.groups.items = omega (arith, below, c.self.invariant.1.all) in
-    let in_block : c.index-2.result.now ≡ slice_index_or c.self.inside.blocks.items (c.args.place / 64) 0 =
-    c.index-2.ensures ∙ get_or_default c.self.inside.blocks.items (c.args.place / 64) c.index-2.result.now 0 block in
-    let in_group : c.index-3.result.now ≡ slice_index_or c.self.inside.groups.items (c.args.place / 4096) 0 =
-    c.index-3.ensures ∙ get_or_default c.self.inside.groups.items (c.args.place / 4096) c.index-3.result.now 0 group in
+    let block : c.args.place / 32 < length c.self.inside.blocks.items = omega (arith, below, c.self.invariant.0.all) in
+    let group : c.args.place / 1024 < length c.self.inside.groups.items = omega (arith, below, c.self.invariant.1.all) in
+    let in_block : c.index-2.result.now ≡ slice_index_or c.self.inside.blocks.items (c.args.place / 32) 0 =
+    c.index-2.ensures ∙ get_or_default c.self.inside.blocks.items (c.args.place / 32) c.index-2.result.now 0 block in
+    let in_group : c.index-3.result.now ≡ slice_index_or c.self.inside.groups.items (c.args.place / 1024) 0 =
+    c.index-3.ensures ∙ get_or_default c.self.inside.groups.items (c.args.place / 1024) c.index-3.result.now 0 group in
     let at : is_marked c.self.inside.marks.items c.args.place ≡ c.index.result.now =
     sym (get_or_default c.self.inside.marks.items c.args.place c.index.result.now false below) ∙ sym c.index.ensures in
     let changed : is_marked c.self.inside.marks.items c.args.place ≡ c.args.mark → ⊥ = λ same. other-mark c.index.result.now c.args.mark c.if-index-mark.false (sym at ∙ same) in
-    let blocks = counts_set 64 c.self.inside.marks.items c.self.inside.blocks.items c.args.place (c.args.place / 64) c.args.mark c.self.invariant.0 below (omega arith) (omega arith) block changed in
-    let groups = counts_set 4096 c.self.inside.marks.items c.self.inside.groups.items c.args.place (c.args.place / 4096) c.args.mark c.self.invariant.1 below (omega arith)
+    let blocks = counts_set 32 c.self.inside.marks.items c.self.inside.blocks.items c.args.place (c.args.place / 32) c.args.mark c.self.invariant.0 below (omega arith) (omega arith) block changed in
+    let groups = counts_set 1024 c.self.inside.marks.items c.self.inside.groups.items c.args.place (c.args.place / 1024) c.args.mark c.self.invariant.1 below (omega arith)
     (omega arith) group changed in (
-      subst (λ n. AreCounts 64 (slice_set c.self.inside.marks.items c.args.place c.args.mark) (slice_set c.self.inside.blocks.items (c.args.place / 64) n))
+      subst (λ n. AreCounts 32 (slice_set c.self.inside.marks.items c.args.place c.args.mark) (slice_set c.self.inside.blocks.items (c.args.place / 32) n))
           (ap (λ n. recounted n c.args.mark) (sym in_block) ∙ sym c.recounted.ensures) blocks,
-      subst (λ n. AreCounts 4096 (slice_set c.self.inside.marks.items c.args.place c.args.mark) (slice_set c.self.inside.groups.items (c.args.place / 4096) n))
+      subst (λ n. AreCounts 1024 (slice_set c.self.inside.marks.items c.args.place c.args.mark) (slice_set c.self.inside.groups.items (c.args.place / 1024) n))
           (ap (λ n. recounted n c.args.mark) (sym in_group) ∙ sym c.recounted-2.ensures) groups,
       rw (length-set c.self.inside.marks.items c.args.place c.args.mark) c.self.invariant.2,
     )
