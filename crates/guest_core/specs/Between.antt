@@ -23,6 +23,11 @@ use Rattle.guest_rules.proofs.Cases.Reached.{Reaches}
 abbrev pub IsFit : GuestState → StorageView → Type 0
 IsFit g v = (d : DiskView) × Fit g v d
 
+-- a processor can go on to its next command: it is there, and that command's number is within range
+pub record CanGoOn (g : GuestState) (cpu : ℕ) : Type 0 where
+  pub there : cpu < length g.processors
+  pub next : (processor_at g cpu).place + 1 < 2 ^ 32
+
 -- a processor's reply can be entered: the processor is there, the journal has room, and the number of its next command is within range
 pub record CanEnter (g : GuestState) (cpu : ℕ) : Type 0 where
   pub there : cpu < length g.processors

@@ -15,7 +15,7 @@ ghost use Rattle.guest_rules.specs.Fit.{Fit, all_commands};
 ghost use Rattle.guest_rules.specs.Cause.{TurnCause, AloneCause, NoWrongDiscard};
 ghost use Rattle.guest_rules.specs.Again.{WhyAgain};
 ghost use Rattle.guest_rules.specs.Alone.{alone};
-ghost use Rattle.guest_core.specs.Between.{CanEnter};
+ghost use Rattle.guest_core.specs.Between.{CanEnter, CanGoOn};
 ghost use Rattle.guest_core.specs.AloneDiscards.{TurnsDiscardRightly, moved_before, last_turn};
 
 mod look;
@@ -166,8 +166,7 @@ impl Guest {
     /// A processor whose command was answered goes on to its next one.
     #[tactic(auto, unfolding(guest_rules::specs::GuestState::next_command))]
     fn next_command(&mut self, cpu: u32)
-        requires cpu { cpu < length self.old.processors }
-        requires next { (processor_at self.old cpu).place + 1 < 2 ^ 32 }
+        requires { CanGoOn self.old cpu }
         ensures { self.new ≡ next_command self.old cpu }
     {
         let place = self.processors[cpu as usize].place;

@@ -13,7 +13,7 @@ ghost use Rattle.guest_rules.specs.Rows.{released};
 ghost use Rattle.guest_rules.specs.Calls.{CanClear, CanTear};
 ghost use Rattle.guest_rules.specs.Fit.{IsTearing};
 ghost use Rattle.guest_rules.specs.Turns.{mapping_pages, unmap_turn, torn_past, teardown_entry, teardown_owned, teardown_page, teardown_turn};
-ghost use Rattle.guest_core.specs.Between.{CanEnter, CanLookUp, IsFit, IsTornTo};
+ghost use Rattle.guest_core.specs.Between.{CanEnter, CanGoOn, CanLookUp, IsFit, IsTornTo};
 
 use super::Guest;
 use cmm_storage::Storage;
@@ -42,8 +42,7 @@ impl Guest {
     /// The last page of the mapping that was in a slot is off: the slot is free, and the processor goes on to its next
     /// command.
     fn end_teardown(&mut self, cpu: u32, slot: u32) -> Turn
-        requires cpu { cpu < length self.old.processors }
-        requires next { (processor_at self.old cpu).place + 1 < 2 ^ 32 }
+        requires goes_on { CanGoOn self.old cpu }
         requires torn { is_torn (slot_at self.old.parts.maps slot) ≡ true }
         requires entries { (index : ℕ) → index < MAX_MAPPING_PAGES → entry_at self.old.parts.maps slot index ≡ None }
         requires pinned { any_pinned self.old.parts.maps slot ≡ false }
@@ -57,8 +56,7 @@ impl Guest {
 
     /// A teardown goes on behind page `index` of the mapping that was in a slot, or is done.
     fn pass_torn(&mut self, cpu: u32, slot: u32, index: u32) -> Turn
-        requires cpu { cpu < length self.old.processors }
-        requires next { (processor_at self.old cpu).place + 1 < 2 ^ 32 }
+        requires goes_on { CanGoOn self.old cpu }
         requires index { index < MAX_MAPPING_PAGES }
         requires torn { IsTornTo self.old.parts.maps slot index }
         ensures row { torn_past self.old cpu slot index (mapping_pages (slot_at self.old.parts.maps slot)) ≡ (self.new, result) }
@@ -86,8 +84,7 @@ impl Guest {
         index: u32,
         pte: Pte,
     ) -> Turn
-        requires cpu { cpu < length self.old.processors }
-        requires next { (processor_at self.old cpu).place + 1 < 2 ^ 32 }
+        requires goes_on { CanGoOn self.old cpu }
         requires index { index < MAX_MAPPING_PAGES }
         requires fit { IsFit self.old (St.view st.old) }
         requires tears { IsTearing self.old cpu slot index }
@@ -133,8 +130,7 @@ impl Guest {
         index: u32,
         page: u32,
     ) -> Turn
-        requires cpu { cpu < length self.old.processors }
-        requires next { (processor_at self.old cpu).place + 1 < 2 ^ 32 }
+        requires goes_on { CanGoOn self.old cpu }
         requires index { index < MAX_MAPPING_PAGES }
         requires fit { IsFit self.old (St.view st.old) }
         requires tears { IsTearing self.old cpu slot index }
@@ -152,8 +148,7 @@ impl Guest {
 
     /// No page has the tag of page `index` of the mapping that was in a slot. Its swap slot, if it has one, is freed.
     fn tear_bare(&mut self, cpu: u32, slot: u32, index: u32) -> Turn
-        requires cpu { cpu < length self.old.processors }
-        requires next { (processor_at self.old cpu).place + 1 < 2 ^ 32 }
+        requires goes_on { CanGoOn self.old cpu }
         requires index { index < MAX_MAPPING_PAGES }
         requires tag { IsTag self.old.parts.cache (Anon slot index) }
         requires torn { IsTornTo self.old.parts.maps slot index }

@@ -6,8 +6,8 @@ use Rattle.guest_core.proofs.OtherTurns.{same_run}
 use Rattle.guest_core.proofs.Teardown.{off-bare, torn_to, tearing-next, run-bare}
 use Rattle.guest_core.proofs.guest.Guest.tear_entry.Goals as goal
 
-pub pass_torn-requires-clause-next : goal.pass_torn-requires-clause-next
-pass_torn-requires-clause-next g c = tearing-next c.args.self.now _ _ c.args.cpu c.args.slot c.args.index c.requires.fit.1 c.requires.tears
+pub pass_torn-requires-clause-goes_on : goal.pass_torn-requires-clause-goes_on
+pass_torn-requires-clause-goes_on g c = record { there = c.requires.cpu; next = tearing-next c.args.self.now _ _ c.args.cpu c.args.slot c.args.index c.requires.fit.1 c.requires.tears }
 
 pub pass_torn-requires-clause-index : goal.pass_torn-requires-clause-index
 pass_torn-requires-clause-index g c = tearing-below c.args.self.now _ _ c.args.cpu c.args.slot c.args.index c.requires.fit.1 c.requires.tears
@@ -17,8 +17,8 @@ pass_torn-requires-clause-torn g c =
     torn_to c.args.self.now _ c.requires.fit.0 c.args.cpu c.args.slot c.args.index c.args.self.now.parts.maps c.requires.fit.1 c.requires.tears
     (off-bare c.args.self.now.parts.maps c.args.slot c.args.index (c.requires.entry ∙ c.in-None.is))
 
-pub clear_turn-requires-clause-next : goal.clear_turn-requires-clause-next
-clear_turn-requires-clause-next g c = tearing-next c.args.self.now _ _ c.args.cpu c.args.slot c.args.index c.requires.fit.1 c.requires.tears
+pub clear_turn-requires-clause-goes_on : goal.clear_turn-requires-clause-goes_on
+clear_turn-requires-clause-goes_on g c = record { there = c.requires.cpu; next = tearing-next c.args.self.now _ _ c.args.cpu c.args.slot c.args.index c.requires.fit.1 c.requires.tears }
 
 pub clear_turn-requires-clause-index : goal.clear_turn-requires-clause-index
 clear_turn-requires-clause-index g c = tearing-below c.args.self.now _ _ c.args.cpu c.args.slot c.args.index c.requires.fit.1 c.requires.tears

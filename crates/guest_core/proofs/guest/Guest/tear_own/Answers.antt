@@ -10,8 +10,8 @@ use Rattle.guest_core.proofs.guest.Guest.tear_own.Goals as goal
 pub page_with-requires : goal.page_with-requires
 page_with-requires g c = tearing-is_tag c.args.self.now _ c.requires.fit.0 c.args.cpu c.args.slot c.args.index c.requires.fit.1 c.requires.tears
 
-pub tear_bare-requires-clause-next : goal.tear_bare-requires-clause-next
-tear_bare-requires-clause-next g c = tearing-next c.args.self.now _ _ c.args.cpu c.args.slot c.args.index c.requires.fit.1 c.requires.tears
+pub tear_bare-requires-clause-goes_on : goal.tear_bare-requires-clause-goes_on
+tear_bare-requires-clause-goes_on g c = record { there = c.requires.cpu; next = tearing-next c.args.self.now _ _ c.args.cpu c.args.slot c.args.index c.requires.fit.1 c.requires.tears }
 
 pub tear_bare-requires-clause-index : goal.tear_bare-requires-clause-index
 tear_bare-requires-clause-index g c = tearing-below c.args.self.now _ _ c.args.cpu c.args.slot c.args.index c.requires.fit.1 c.requires.tears
@@ -31,8 +31,8 @@ info-requires g c =
     (found_takes c.args.self.now _ c.in-Some.page (Anon c.args.slot c.args.index) c.requires.fit
     (tearing-is_tag c.args.self.now _ c.requires.fit.0 c.args.cpu c.args.slot c.args.index c.requires.fit.1 c.requires.tears) (sym c.page_with.ensures ∙ c.in-Some.is)).in_use.below
 
-pub tear_turn-requires-clause-next : goal.tear_turn-requires-clause-next
-tear_turn-requires-clause-next g c = tearing-next c.args.self.now _ _ c.args.cpu c.args.slot c.args.index c.requires.fit.1 c.requires.tears
+pub tear_turn-requires-clause-goes_on : goal.tear_turn-requires-clause-goes_on
+tear_turn-requires-clause-goes_on g c = record { there = c.requires.cpu; next = tearing-next c.args.self.now _ _ c.args.cpu c.args.slot c.args.index c.requires.fit.1 c.requires.tears }
 
 pub tear_turn-requires-clause-index : goal.tear_turn-requires-clause-index
 tear_turn-requires-clause-index g c = tearing-below c.args.self.now _ _ c.args.cpu c.args.slot c.args.index c.requires.fit.1 c.requires.tears
