@@ -3,7 +3,7 @@ use Rattle.std.specs.Prelude.{◌≡◌, ◌⊎◌, ℕ, List, [], Option, Some,
 use Rattle.std.proofs.Common.{inl, inr, arith}
 use Rattle.cmm_line.specs.declared.line.Line.{Line}
 use Rattle.cmm_line.specs.declared.line.Line.TheVariants.{Replay, Run, Check, Gen, Demo}
-use Rattle.cmm2_cli.specs.declared.replay.TheConstants.{MAX_INPUT}
+use Rattle.cmm_check.specs.declared.judging.TheConstants.{MAX_SCENARIO}
 use Rattle.cmm2_cli.specs.declared.input.Input.TheVariants.{Scenario, Report}
 use Rattle.cmm2_cli.specs.declared.status.Status.{Status}
 use Rattle.cmm2_cli.specs.declared.status.Status.TheVariants.{Done, Usage, ReadFault, WriteFault, NoMemory, Rejected}
@@ -50,7 +50,7 @@ module _ {S : Type 0} (source_faults : S → ℕ) (rest : S → Option (List ℕ
   no_line : (line : Option Line) → AnswersLine source_faults rest given src src faults written out out line NoMemory
   no_line None = inr nothing
   no_line (Some Replay) = no_input (limit_of Scenario) (AnswersBytes faults written out out Scenario)
-  no_line (Some Run) = no_input MAX_INPUT (AnswersScenario faults written out out (Runs faults written out out))
+  no_line (Some Run) = no_input MAX_SCENARIO (AnswersScenario faults written out out (Runs faults written out out))
   no_line (Some Check) = no_input (limit_of Report) (AnswersBytes faults written out out Report)
   no_line (Some (Gen start size)) = inr nothing
   no_line (Some (Demo start size)) = inr nothing

@@ -3,7 +3,7 @@ use Rattle.std.specs.Prelude.{◌≡◌, ◌≢◌, ◌⊎◌, ℕ, List, Bool, 
 use Rattle.cmm_io.specs.Faults.{raised}
 use Rattle.cmm_line.specs.declared.line.Line.{Line}
 use Rattle.cmm_line.specs.declared.line.Line.TheVariants.{Replay, Run, Check, Gen, Demo}
-use Rattle.cmm2_cli.specs.declared.replay.TheConstants.{MAX_INPUT}
+use Rattle.cmm_check.specs.declared.judging.TheConstants.{MAX_SCENARIO}
 use Rattle.cmm2_cli.specs.declared.input.Input.{Input}
 use Rattle.cmm2_cli.specs.declared.input.Input.TheVariants.{Scenario, Report}
 use Rattle.cmm2_cli.specs.declared.refusal.Refusal.TheVariants.{Words}
@@ -30,7 +30,7 @@ module _ {S : Type 0} (source_faults : S → ℕ) (rest : S → Option (List ℕ
 
   -- a scenario is run
   abbrev pub ServesRun : Status → Type 0
-  ServesRun result = ReadsInput rest given before after faults written old new MAX_INPUT (AnswersScenario faults written old new (Runs faults written old new)) result
+  ServesRun result = ReadsInput rest given before after faults written old new MAX_SCENARIO (AnswersScenario faults written old new (Runs faults written old new)) result
 
   -- each line has its answer, and words that are none are refused. Where memory runs out, nothing is written
   abbrev pub AnswersLine : Option Line → Status → Type 0

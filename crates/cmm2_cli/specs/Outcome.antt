@@ -11,7 +11,7 @@ use Rattle.cmm_scenario.specs.Scenario.{scenario_of}
 use Rattle.cmm_generate.specs.Generated.{generated}
 use Rattle.cmm_generate.specs.Text.{scenario_text}
 use Rattle.cmm_report.specs.Report.{report_of}
-use Rattle.cmm_check.specs.declared.judging.TheConstants.{MAX_CHECKED}
+use Rattle.cmm_check.specs.declared.judging.TheConstants.{MAX_CHECKED, MAX_SCENARIO}
 use Rattle.cmm_check.specs.declared.judging.InputError.{InputError}
 use Rattle.cmm_check.specs.declared.judging.InputError.TheVariants as input_errors
 use Rattle.cmm_check.specs.declared.verdict.Verdict.{Verdict}
@@ -21,7 +21,6 @@ use Rattle.cmm_check.specs.Judge.{IsJudged}
 use Rattle.cmm_check.specs.VerdictLine.{verdict_line}
 use Rattle.cmm_world.specs.Run.{run_of}
 use Rattle.cmm_world.specs.Headline.{IsLegalRun}
-use Rattle.cmm2_cli.specs.declared.replay.TheConstants.{MAX_INPUT}
 use Rattle.cmm2_cli.specs.declared.input.Input.{Input}
 use Rattle.cmm2_cli.specs.declared.input.Input.TheVariants.{Scenario as ScenarioInput, Report}
 use Rattle.cmm2_cli.specs.declared.refusal.Refusal.TheVariants.{Long, NoReport, NotJson}
@@ -104,7 +103,7 @@ module _ {K : Type 0} (faults : K → ℕ) (written : K → Option (List ℕ)) (
 
 -- the most bytes of an input
 abbrev pub limit_of : Input → ℕ
-limit_of ScenarioInput = MAX_INPUT
+limit_of ScenarioInput = MAX_SCENARIO
 limit_of Report = MAX_CHECKED
 
 -- the bytes of an input that the program takes: of one that is longer than the limit, one more than the limit

@@ -6,9 +6,9 @@ ghost use Rattle.cmm2_cli.specs.Outcome.{limit_of, AnswersBytes, AnswersInput, A
 
 use crate::judging::answer_report;
 use crate::refusal::Refusal;
-use crate::replay::{MAX_INPUT, answer_scenario, refuse};
+use crate::replay::{answer_scenario, refuse};
 use crate::status::Status;
-use cmm_check::MAX_CHECKED;
+use cmm_check::{MAX_CHECKED, MAX_SCENARIO};
 use cmm_io::{ReadError, Sink, Source, read_all};
 use std::alloc::Global;
 
@@ -27,7 +27,7 @@ impl Input {
         ensures { result ≡ limit_of self }
     {
         match self {
-            Input::Scenario => MAX_INPUT,
+            Input::Scenario => MAX_SCENARIO,
             Input::Report => MAX_CHECKED,
         }
     }

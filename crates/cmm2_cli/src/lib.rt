@@ -22,7 +22,6 @@ mod tests;
 
 pub use input::Input;
 pub use program::{cmm2, cmm2_replay, cmm2_run};
-pub use replay::MAX_INPUT;
 pub use report::write_replay;
 pub use run_report::write_run;
 pub use status::Status;

@@ -17,9 +17,6 @@ use cmm_types::Scenario;
 use cmm_world::World;
 use std::alloc::{AllocError, Global};
 
-/// The most bytes of a scenario.
-pub const MAX_INPUT: usize = 16_777_216;
-
 pub fn refuse<K: Sink>(out: &mut K, refusal: Refusal) -> Status
     ensures { Answers K.faults K.written out.old out.new (refusal_text refusal) (refusal_status refusal) result }
 {

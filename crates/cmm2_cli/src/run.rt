@@ -4,14 +4,15 @@ ghost use Rattle.cmm_types.specs.InRange.{ScenarioInRange};
 ghost use Rattle.cmm_io.specs.Faults.{raised};
 ghost use Rattle.cmm_io.specs.SourceBytes.{HasTakenAtMost};
 ghost use Rattle.cmm_report.specs.Report.{report_of};
-ghost use Rattle.cmm2_cli.specs.declared.replay.TheConstants.{MAX_INPUT};
+ghost use Rattle.cmm_check.specs.declared.judging.TheConstants.{MAX_SCENARIO};
 ghost use Rattle.cmm2_cli.specs.Outcome.{Answers, WroteNothing, AnswersScenario, AnswersInput, AnswersSome};
 ghost use Rattle.cmm2_cli.specs.Running.{Runs, looked_discards, machine_reports};
 
 use crate::refusal::Refusal;
-use crate::replay::{MAX_INPUT, refuse, refuse_fault};
+use crate::replay::{refuse, refuse_fault};
 use crate::run_report::{machine_discards, write_run};
 use crate::status::Status;
+use cmm_check::MAX_SCENARIO;
 use cmm_io::{ReadError, Sink, Source, WriteFault, read_all};
 use cmm_scenario::{ScenarioError, read_scenario};
 use cmm_types::Scenario;
@@ -101,7 +102,7 @@ pub fn read_run<R: Threads + Wait + Sync, S: Source, K: Sink, G: Gate + Sync>(
 
     // Nothing is written after a read that failed, or where memory ran out.
     ensures read_fault { result ≡ Status.ReadFault → (S.faults src.new ≡ raised (S.faults src.old)) × (out.new ≡ out.old) }
-    ensures read_fault_within { result ≡ Status.ReadFault → HasTakenAtMost S.rest S.given src.old src.new MAX_INPUT }
+    ensures read_fault_within { result ≡ Status.ReadFault → HasTakenAtMost S.rest S.given src.old src.new MAX_SCENARIO }
     ensures no_read_fault { result ≢ Status.ReadFault → S.faults src.new ≡ S.faults src.old }
     ensures no_memory { result ≡ Status.NoMemory → out.new ≡ out.old }
     ensures write_fault { result ≡ Status.WriteFault → K.faults out.new ≡ raised (K.faults out.old) }
@@ -109,15 +110,15 @@ pub fn read_run<R: Threads + Wait + Sync, S: Source, K: Sink, G: Gate + Sync>(
 
     // Otherwise the input has its answer. All of it is read, or one byte more than the limit.
     ensures answer { IfSome (S.rest src.old) (λ bytes. (result ≡ Status.ReadFault) ⊎ AnswersInput S.rest S.given src.old src.new
-        K.faults K.written out.old out.new MAX_INPUT (AnswersScenario K.faults K.written out.old out.new (Runs K.faults K.written out.old out.new)) bytes result) }
+        K.faults K.written out.old out.new MAX_SCENARIO (AnswersScenario K.faults K.written out.old out.new (Runs K.faults K.written out.old out.new)) bytes result) }
     ensures read_whole { (result ≡ Status.Done) ⊎ (result ≡ Status.Rejected) → IsAtEnd (S.rest src.new) }
 
     // Also where the source doesn't tell its bytes, the answer is one to some input, of which as many bytes were
     // read.
     ensures some_input { AnswersSome S.rest S.given src.old src.new K.faults K.written out.old out.new
-        MAX_INPUT (AnswersScenario K.faults K.written out.old out.new (Runs K.faults K.written out.old out.new)) result }
+        MAX_SCENARIO (AnswersScenario K.faults K.written out.old out.new (Runs K.faults K.written out.old out.new)) result }
 {
-    match read_all(alloc, src, MAX_INPUT) {
+    match read_all(alloc, src, MAX_SCENARIO) {
         Ok(bytes) => answer_run(rt, alloc, bytes.as_slice(), out, gate),
         Err(ReadError::TooLong) => refuse(out, Refusal::Long),
         Err(ReadError::ReadFault) => Status::ReadFault,

@@ -1,4 +1,5 @@
-use crate::{MAX_INPUT, Status, cmm2_replay};
+use crate::{Status, cmm2_replay};
+use cmm_check::MAX_SCENARIO;
 use cmm_io::{MemSink, MemSource, Source};
 use std::alloc::Global;
 use std::test::Fail;
@@ -107,8 +108,8 @@ fn a_scenario_gives_its_report(rt: HostRuntime) -> Result<(), Fail> {
 
 #[test]
 fn too_long_an_input_is_refused(rt: HostRuntime) -> Result<(), Fail> {
-    let spaces = vec![in rt.alloc(); b' '; MAX_INPUT + 1]?;
-    let mut src = MemSource::new(spaces, MAX_INPUT, Vec::new(rt.alloc()));
+    let spaces = vec![in rt.alloc(); b' '; MAX_SCENARIO + 1]?;
+    let mut src = MemSource::new(spaces, MAX_SCENARIO, Vec::new(rt.alloc()));
     let mut out = sink(rt.alloc(), 0)?;
     let words = replay_words(rt.alloc())?;
     let status = cmm2_replay(rt.alloc(), words.as_slice(), &mut src, &mut out);

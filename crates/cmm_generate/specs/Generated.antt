@@ -1,6 +1,7 @@
 -- The scenario that is generated from a number: all draws in their order.
 use Rattle.std.specs.Prelude.{ℕ, suc, ◌+◌, ◌*◌, ◌/◌, ◌%◌, ◌==◌, ◌&&◌, nat_lt, nat_le, true, if◌then◌else◌, List, [], ◌∷◌, ◌++◌}
 use Rattle.cmm_types.specs.declared.command.Op.{Op}
+use Rattle.cmm_types.specs.declared.page.TheConstants.{PAGE}
 use Rattle.cmm_types.specs.declared.command.Op.TheVariants.{Read, Write, Sync, MapFile, MapAnon, Load, Store}
 use Rattle.cmm_types.specs.declared.page.Move.TheVariants.{Discard}
 use Rattle.cmm_types.specs.declared.event.Event.{Event}
@@ -28,7 +29,7 @@ unfoldable pub place : Draw ℕ
 place = do
   page ← below 8
   off ← below 4033
-  give (4096 * page + off)
+  give (PAGE * page + off)
 
 -- 1 to 64
 unfoldable pub count : Draw ℕ

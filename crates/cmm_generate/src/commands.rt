@@ -5,7 +5,7 @@ ghost use Rattle.cmm_generate.specs.Draws.{Draws};
 ghost use Rattle.cmm_generate.specs.Generated.{place, count, some_bytes, read, write, sync, load, store, of_kind, command, commands, commands_of};
 
 use crate::numbers::Numbers;
-use cmm_types::{Bytes64, Op};
+use cmm_types::{Bytes64, Op, PAGE};
 use std::alloc::{AllocError, Global};
 
 /// An offset in eight pages, at least 64 bytes before the end of its page.
@@ -15,7 +15,7 @@ fn place(numbers: &mut Numbers) -> u32
 {
     let page = numbers.below(8);
     let off = numbers.below(4033);
-    4096 * page + off
+    PAGE as u32 * page + off
 }
 
 /// How many bytes are read.

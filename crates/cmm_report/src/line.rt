@@ -1,5 +1,6 @@
 ghost use Rattle.std.specs.Prelude.{◌≡◌, ◌+◌, ◌*◌, ◌≤◌, ◌++◌, [], length, decimal};
 ghost use Rattle.cmm_report.specs.Texts.{hex_text};
+ghost use Rattle.cmm_report.specs.declared.line.TheConstants.{LINE};
 
 use arrayvec::ArrayVec;
 use itoa::Buffer;
@@ -38,7 +39,7 @@ impl Line {
     }
 
     pub fn add(&mut self, text: &[u8])
-        requires { length self.old + length text.now ≤ 256 }
+        requires { length self.old + length text.now ≤ LINE }
         ensures text { self.new ≡ self.old ++ text.now }
         ensures len { length self.new ≡ length self.old + length text.now }
     {
@@ -47,7 +48,7 @@ impl Line {
 
     /// Adds a number in decimal: at most 20 digits.
     pub fn add_number(&mut self, n: u64)
-        requires { length self.old + 20 ≤ 256 }
+        requires { length self.old + 20 ≤ LINE }
         ensures text { self.new ≡ self.old ++ decimal n }
         ensures len { length self.new ≤ length self.old + 20 }
     {
@@ -58,7 +59,7 @@ impl Line {
 
     /// Adds bytes in lower-case hexadecimal.
     pub fn add_hex(&mut self, bytes: &[u8])
-        requires { length self.old + 2 * length bytes.now ≤ 256 }
+        requires { length self.old + 2 * length bytes.now ≤ LINE }
         ensures text { self.new ≡ self.old ++ hex_text bytes.now }
         ensures len { length self.new ≡ length self.old + 2 * length bytes.now }
     {

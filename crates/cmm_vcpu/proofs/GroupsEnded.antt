@@ -12,7 +12,8 @@ use Rattle.host_shared.specs.Reclaiming.{CanReclaim}
 use Rattle.guest_rules.specs.FailsAsPlanned.{FailsAsPlanned}
 use Rattle.cmm_vcpu.specs.KernelState.{KernelState, HasRun, own_words}
 use Rattle.cmm_vcpu.specs.LastLooks.{HasLooked}
-use Rattle.cmm_vcpu.specs.Machines.{ReclaimerState, GroupState, MachineState, IsMachine, IsReady, KernelReady, ReclaimerReady, HasEnded, KernelEnded, ReclaimerEnded, KernelLooked, GroupLooked, HasLastLooks, KernelLooks, GroupOver, AllHaveRun, kernel_in, group_at, no_group}
+use Rattle.cmm_vcpu.specs.Machines.{ReclaimerState, GroupState, MachineState, IsMachine, IsReady, KernelReady, ReclaimerReady}
+use Rattle.cmm_vcpu.specs.Machines.{HasEnded, KernelEnded, ReclaimerEnded, KernelLooked, GroupLooked, HasLastLooks, KernelLooks, GroupOver, AllHaveRun, kernel_in, group_at, no_group}
 
 -- seats of the same words and the same pool as before
 pub can_again : (words : List WordsView) (pool : PoolId) (before after : List Seated) (seat other : PoolSeatView) → CanReclaim words pool before seat → CanReclaim words pool after other

@@ -1,5 +1,5 @@
 use Rattle.std.proofs.Common.{[], length, inr, Err, refl, ap, subst, arith}
-use Rattle.cmm2_cli.specs.declared.replay.TheConstants.{MAX_INPUT}
+use Rattle.cmm_check.specs.declared.judging.TheConstants.{MAX_SCENARIO}
 use Rattle.cmm2_cli.specs.Outcome.{AnswersScenario}
 use Rattle.cmm2_cli.specs.Running.{Runs}
 use Rattle.cmm2_cli.proofs.Taken.{long_answer, long_some, whole_answer, whole_some}
@@ -8,7 +8,7 @@ use Rattle.cmm2_cli.proofs.run.read_run.Goals as goal
 pub returns-in-Ok-clause-answer : goal.returns-in-Ok-clause-answer
 returns-in-Ok-clause-answer g c =
     whole_answer g.S.Source.rest g.S.Source.given _ _ g.K.Sink.faults g.K.Sink.written _ _
-    MAX_INPUT (AnswersScenario g.K.Sink.faults g.K.Sink.written c.args.out.now c.answer_run.new.out (Runs g.K.Sink.faults g.K.Sink.written c.args.out.now c.answer_run.new.out))
+    MAX_SCENARIO (AnswersScenario g.K.Sink.faults g.K.Sink.written c.args.out.now c.answer_run.new.out (Runs g.K.Sink.faults g.K.Sink.written c.args.out.now c.answer_run.new.out))
     c.in-Ok.bytes.items c.answer_run.result c.in-Ok.ensures.whole
     (omega (arith, c.in-Ok.ensures.short, c.as_slice.ensures.len, ap length c.as_slice.ensures.value)) c.in-Ok.ensures.taken
     (subst (λ bytes. AnswersScenario g.K.Sink.faults g.K.Sink.written c.args.out.now c.answer_run.new.out
@@ -17,7 +17,7 @@ returns-in-Ok-clause-answer g c =
 pub returns-in-Ok-clause-some_input : goal.returns-in-Ok-clause-some_input
 returns-in-Ok-clause-some_input g c =
     whole_some g.S.Source.rest g.S.Source.given _ _ g.K.Sink.faults g.K.Sink.written _ _
-    MAX_INPUT (AnswersScenario g.K.Sink.faults g.K.Sink.written c.args.out.now c.answer_run.new.out (Runs g.K.Sink.faults g.K.Sink.written c.args.out.now c.answer_run.new.out))
+    MAX_SCENARIO (AnswersScenario g.K.Sink.faults g.K.Sink.written c.args.out.now c.answer_run.new.out (Runs g.K.Sink.faults g.K.Sink.written c.args.out.now c.answer_run.new.out))
     c.in-Ok.bytes.items c.answer_run.result
     (omega (arith, c.in-Ok.ensures.short, c.as_slice.ensures.len, ap length c.as_slice.ensures.value)) c.in-Ok.ensures.taken
     (subst (λ bytes. AnswersScenario g.K.Sink.faults g.K.Sink.written c.args.out.now c.answer_run.new.out
@@ -26,14 +26,14 @@ returns-in-Ok-clause-some_input g c =
 pub returns-in-Err-TooLong-clause-answer : goal.returns-in-Err-TooLong-clause-answer
 returns-in-Err-TooLong-clause-answer g c =
     long_answer g.S.Source.rest g.S.Source.given _ _ g.K.Sink.faults g.K.Sink.written _ _
-    MAX_INPUT (AnswersScenario g.K.Sink.faults g.K.Sink.written c.args.out.now c.refuse.new.out (Runs g.K.Sink.faults g.K.Sink.written c.args.out.now c.refuse.new.out))
+    MAX_SCENARIO (AnswersScenario g.K.Sink.faults g.K.Sink.written c.args.out.now c.refuse.new.out (Runs g.K.Sink.faults g.K.Sink.written c.args.out.now c.refuse.new.out))
     c.refuse.result
     (c.in-Err-TooLong.ensures.one_more (ap Err c.in-Err-TooLong.field-0-is)) c.refuse.ensures
 
 pub returns-in-Err-TooLong-clause-some_input : goal.returns-in-Err-TooLong-clause-some_input
 returns-in-Err-TooLong-clause-some_input g c =
     long_some g.S.Source.rest g.S.Source.given _ _ g.K.Sink.faults g.K.Sink.written _ _
-    MAX_INPUT (AnswersScenario g.K.Sink.faults g.K.Sink.written c.args.out.now c.refuse.new.out (Runs g.K.Sink.faults g.K.Sink.written c.args.out.now c.refuse.new.out))
+    MAX_SCENARIO (AnswersScenario g.K.Sink.faults g.K.Sink.written c.args.out.now c.refuse.new.out (Runs g.K.Sink.faults g.K.Sink.written c.args.out.now c.refuse.new.out))
     c.refuse.result
     (c.in-Err-TooLong.ensures.one_more (ap Err c.in-Err-TooLong.field-0-is)) c.refuse.ensures
 
