@@ -1,3 +1,3 @@
-mod Places
+mod Keys
 mod Totals
 mod Worked

@@ -9,12 +9,12 @@ use Rattle.cmm_types.specs.declared.command.Reply.{Reply}
 use Rattle.cmm_types.specs.declared.command.Reply.TheVariants.{Done, Bytes, Refused, Fail}
 use Rattle.cmm_types.specs.declared.command.FlatRefusal.TheVariants.{NoMapping}
 use Rattle.cmm_types.specs.declared.command.Cause.TheVariants.{NoPage}
-use Rattle.cmm_flat.specs.declared.mapping.Place.{Place}
+use Rattle.cmm_flat.specs.declared.mapping.MappingKey.{MappingKey}
 use Rattle.cmm_flat.specs.declared.mapping.Mapping.{Mapping}
 use Rattle.cmm_flat.specs.declared.mapping.Shown.TheVariants.{Anonymous}
 use Rattle.cmm_types.specs.Bytes.{zeros, bytes_at}
-use Rattle.cmm_flat.specs.Mapping.{place_cmp, written}
-use Rattle.cmm_flat.specs.State.{FlatState, opening, mapping_at, place_of}
+use Rattle.cmm_flat.specs.Mapping.{key_cmp, written}
+use Rattle.cmm_flat.specs.State.{FlatState, opening, mapping_at, key_of}
 use Rattle.cmm_flat.specs.Flat.{refusal_of, is_full, with_mapping, without_mapping, none_pinned, flat_step}
 use Rattle.cmm_flat.specs.Laws.StepLaws.{mapping_at-with_mapping, mapping_at-without_mapping, step_read, step_map_anon, step_unmap, step_no_mapping_load, load_accepted, step_load, step_store}
 use Rattle.cmm_flat.specs.Laws.SumLaws.{sum_over-empty, sum_over-insert, number_before}
@@ -69,10 +69,10 @@ abbrev none : FlatState
 none = opening []
 
 unmapped : (process number : ℕ) → mapping_at none process number ≡ None
-unmapped process number = finite.get-empty place_cmp (place_of process number)
+unmapped process number = finite.get-empty key_cmp (key_of process number)
 
 empty_room : is_full none ≡ false
-empty_room = ap (λ n. nat_le 256 n) (finite.len-empty place_cmp Mapping)
+empty_room = ap (λ n. nat_le 256 n) (finite.len-empty key_cmp Mapping)
 
 abbrev own : ℕ → Mapping
 own count = record { shown = Anonymous (zeros (PAGE * count)); pins = none_pinned count }
@@ -143,13 +143,13 @@ stores_second = step_store stored_one 0 0 4096 (0x62 ∷ []) first_stored (mappi
 accepts : refusal_of stored_two 0 (Load 0 8192 1) ≡ None
 accepts = load_accepted stored_two 0 0 8192 1 both_stored (mapping_at-with_mapping stored_one 0 0 both_stored) refl
 
-abbrev pages : Place × Mapping → ℕ
+abbrev pages : MappingKey × Mapping → ℕ
 pages live = anonymous_pages live.1
 
 -- three anonymous pages are live
 three : over_live anonymous_pages stored_two ≡ 3
 three =
-    let q = place_of 0 0 in
+    let q = key_of 0 0 in
     let one = sum_over-insert pages none.mappings q (own 3) in
     let two = sum_over-insert pages (mapped 3).mappings q first_stored in
     let last = sum_over-insert pages stored_one.mappings q both_stored in

@@ -15,7 +15,7 @@ use Rattle.cmm_flat.specs.declared.mapping.Shown.{Shown}
 use Rattle.cmm_flat.specs.declared.mapping.Shown.TheVariants.{OfFile, Anonymous}
 use Rattle.cmm_types.specs.Bytes.{zeros, bytes_at, with_bytes}
 use Rattle.cmm_flat.specs.Mapping.{length_of, shows_writable, written, with_pin}
-use Rattle.cmm_flat.specs.State.{FlatState, place_of, mapping_at, file_at}
+use Rattle.cmm_flat.specs.State.{FlatState, key_of, mapping_at, file_at}
 
 -- a test of the live mapping, which fails where there is none
 abbrev pub of_live : (Mapping → Bool) → Option Mapping → Bool
@@ -97,11 +97,11 @@ with_file_bytes state file off bytes = record state { files = set state.files fi
 
 -- the mapping is live
 abbrev pub with_mapping : FlatState → ℕ → ℕ → Mapping → FlatState
-with_mapping state process number mapping = record state { mappings = finite.insert state.mappings (place_of process number) mapping }
+with_mapping state process number mapping = record state { mappings = finite.insert state.mappings (key_of process number) mapping }
 
 -- the number isn't live
 abbrev pub without_mapping : FlatState → ℕ → ℕ → FlatState
-without_mapping state process number = record state { mappings = finite.remove state.mappings (place_of process number) }
+without_mapping state process number = record state { mappings = finite.remove state.mappings (key_of process number) }
 
 -- the bytes stand in what the mapping shows
 abbrev pub stored : FlatState → ℕ → ℕ → Mapping → Shown → ℕ → List ℕ → FlatState

@@ -4,7 +4,7 @@ pub mod CountLaws
 pub mod CommandLaws
 pub mod FlatLaws
 pub mod LegalLaws
-pub mod PlaceLaws
+pub mod KeyLaws
 pub mod RangeLaws
 pub mod SoundLaws
 pub mod StepLaws

@@ -9,7 +9,7 @@ use Rattle.cmm_types.specs.declared.command.Reply.{Reply}
 use Rattle.cmm_types.specs.declared.command.Reply.TheVariants.{Done, Bytes, Refused, Fail}
 use Rattle.cmm_types.specs.declared.command.Cause.TheVariants.{Disk, Paging, NoPage}
 use Rattle.cmm_types.specs.declared.command.Entry.{Entry}
-use Rattle.cmm_flat.specs.declared.mapping.Place.{Place}
+use Rattle.cmm_flat.specs.declared.mapping.MappingKey.{MappingKey}
 use Rattle.cmm_flat.specs.declared.mapping.Mapping.{Mapping}
 use Rattle.cmm_flat.specs.declared.mapping.Shown.{Shown}
 use Rattle.cmm_flat.specs.declared.mapping.Shown.TheVariants.{OfFile, Anonymous}
@@ -66,8 +66,8 @@ anonymous_pages mapping = of mapping.shown
 abbrev pub pinned_pages : Mapping → ℕ
 pinned_pages mapping = count_by (λ pin. pin) mapping.pins
 
--- the sum of a number over mappings with their places
-abbrev pub sum_over : (Place × Mapping → ℕ) → List (Place × Mapping) → ℕ
+-- the sum of a number over mappings with their keys
+abbrev pub sum_over : (MappingKey × Mapping → ℕ) → List (MappingKey × Mapping) → ℕ
 sum_over number [] = 0
 sum_over number (mapping ∷ mappings) = number mapping + sum_over number mappings
 

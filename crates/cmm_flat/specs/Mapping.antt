@@ -1,21 +1,21 @@
--- A mapping and its place, in the order of processes and numbers, and as data.
+-- A mapping and its key, in the order of processes and numbers, and as data.
 use Rattle.std.specs.Prelude.{ℕ, ◌+◌, ◌*◌, ◌≤◌, Bool, true, List, length, refl, ◌≡◌, ◌⊎◌, set}
 use Rattle.std.specs.Ordering.{nat_cmp, ordering_then}
 use Rattle.std.specs.Coded.{Coded, code_by, coded×, coded⊎, coded_ℕ, coded_bool, coded_list}
 use Rattle.std.proofs.Common.{inl, inr, Ordering}
 use Rattle.cmm_types.specs.declared.page.TheConstants.{PAGE}
-use Rattle.cmm_flat.specs.declared.mapping.Place.{Place}
+use Rattle.cmm_flat.specs.declared.mapping.MappingKey.{MappingKey}
 use Rattle.cmm_flat.specs.declared.mapping.Mapping.{Mapping}
 use Rattle.cmm_flat.specs.declared.mapping.Shown.{Shown}
 use Rattle.cmm_flat.specs.declared.mapping.Shown.TheVariants.{OfFile, Anonymous}
 use Rattle.cmm_types.specs.Bytes.{with_bytes}
 
 -- by process, and then by number
-abbrev pub place_cmp : Place → Place → Ordering
-place_cmp a b = ordering_then (nat_cmp a.process b.process) (nat_cmp a.map b.map)
+abbrev pub key_cmp : MappingKey → MappingKey → Ordering
+key_cmp a b = ordering_then (nat_cmp a.process b.process) (nat_cmp a.map b.map)
 
-abbrev pub coded_place : Coded Place
-coded_place = code_by (ℕ × ℕ) (coded× coded_ℕ coded_ℕ) (λ p. (p.process, p.map)) (λ p. record { process = p.0; map = p.1 }) (λ _. refl)
+abbrev pub coded_key : Coded MappingKey
+coded_key = code_by (ℕ × ℕ) (coded× coded_ℕ coded_ℕ) (λ p. (p.process, p.map)) (λ p. record { process = p.0; map = p.1 }) (λ _. refl)
 
 abbrev parts : Shown → ((ℕ × (ℕ × Bool)) ⊎ List ℕ)
 parts (OfFile file first writable) = inl (file, (first, writable))

@@ -5,19 +5,19 @@ use Rattle.std.specs.FinMap as finite
 use Rattle.cmm_types.specs.declared.page.TheConstants.{PAGE}
 use Rattle.cmm_types.specs.declared.command.TheConstants.{MAX_MAPPING_PAGES}
 use Rattle.cmm_types.specs.declared.plan.FilePlan.{FilePlan}
-use Rattle.cmm_flat.specs.declared.mapping.Place.{Place}
+use Rattle.cmm_flat.specs.declared.mapping.MappingKey.{MappingKey}
 use Rattle.cmm_flat.specs.declared.mapping.Mapping.{Mapping}
 use Rattle.cmm_flat.specs.declared.mapping.Shown.{Shown}
 use Rattle.cmm_flat.specs.declared.mapping.Shown.TheVariants.{OfFile, Anonymous}
 use Rattle.cmm_types.specs.Bytes.{zeros}
-use Rattle.cmm_flat.specs.Mapping.{place_cmp, coded_place, coded_mapping}
+use Rattle.cmm_flat.specs.Mapping.{key_cmp, coded_key, coded_mapping}
 
 pub record FlatState : Type 0 where
   pub files : List (List ℕ)
-  pub mappings : finite.FinMap place_cmp Mapping
+  pub mappings : finite.FinMap key_cmp Mapping
 
 abbrev pub coded_state : Coded FlatState
-coded_state = code_by (List (List ℕ) × finite.FinMap place_cmp Mapping) (coded× (coded_list (coded_list coded_ℕ)) (finite.code coded_place coded_mapping)) (λ s. (s.files, s.mappings))
+coded_state = code_by (List (List ℕ) × finite.FinMap key_cmp Mapping) (coded× (coded_list (coded_list coded_ℕ)) (finite.code coded_key coded_mapping)) (λ s. (s.files, s.mappings))
     (λ p. record { files = p.0; mappings = p.1 }) (λ _. refl)
 
 -- a file's head, followed by zeros
@@ -28,12 +28,12 @@ opening_file plan = plan.head ++ zeros (PAGE * plan.pages - length plan.head)
 abbrev pub opening : List FilePlan → FlatState
 opening plans = record { files = map opening_file plans; mappings = finite.empty }
 
-abbrev pub place_of : ℕ → ℕ → Place
-place_of process number = record { process = process; map = number }
+abbrev pub key_of : ℕ → ℕ → MappingKey
+key_of process number = record { process = process; map = number }
 
 -- the live mapping with this number in this process
 abbrev pub mapping_at : FlatState → ℕ → ℕ → Option Mapping
-mapping_at state process number = finite.get state.mappings (place_of process number)
+mapping_at state process number = finite.get state.mappings (key_of process number)
 
 -- a file's bytes; none where there is no such file
 abbrev pub file_at : List (List ℕ) → ℕ → List ℕ

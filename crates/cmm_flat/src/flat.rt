@@ -11,7 +11,7 @@ ghost use Rattle.cmm_flat.specs.Legal.{over_live, pinned_pages, anonymous_pages,
 
 use crate::NoMemory;
 use crate::contents::Contents;
-use crate::mapping::{Mapping, Place, Shown};
+use crate::mapping::{Mapping, MappingKey, Shown};
 use crate::mappings::Mappings;
 use crate::pins::Pins;
 use cmm_types::{Bytes64, FilePlan, FlatRefusal, MAX_LIVE_MAPPINGS, Op, PAGE, Reply};
@@ -72,7 +72,7 @@ impl Flat {
         ensures at { option_copied result ≡ mapping_at self.now process map }
         ensures shows { IfSome result (λ mapping. Shows self.now.files mapping.now) }
     {
-        self.mappings.get(Place { process, map })
+        self.mappings.get(MappingKey { process, map })
     }
 
     pub(crate) fn is_full(&self) -> bool
@@ -143,7 +143,7 @@ impl Flat {
             },
             pins: Pins::none(alloc, pages)?,
         };
-        self.mappings.insert(Place { process, map }, mapping)?;
+        self.mappings.insert(MappingKey { process, map }, mapping)?;
         Ok(Reply::Done)
     }
 
@@ -171,7 +171,7 @@ impl Flat {
             },
             pins: Pins::none(alloc, pages)?,
         };
-        self.mappings.insert(Place { process, map }, mapping)?;
+        self.mappings.insert(MappingKey { process, map }, mapping)?;
         Ok(Reply::Done)
     }
 
@@ -184,7 +184,7 @@ impl Flat {
         if mapping.pins.any() {
             return Reply::Refused(FlatRefusal::Pinned);
         }
-        self.mappings.remove(Place { process, map });
+        self.mappings.remove(MappingKey { process, map });
         Reply::Done
     }
 
@@ -235,7 +235,7 @@ impl Flat {
                 Reply::Done
             }
             Shown::Anonymous { .. } => {
-                self.mappings.write(Place { process, map }, off, bytes);
+                self.mappings.write(MappingKey { process, map }, off, bytes);
                 Reply::Done
             }
         }
@@ -254,7 +254,8 @@ impl Flat {
         if mapping.pins.at(page) {
             return Reply::Refused(FlatRefusal::Pinned);
         }
-        self.mappings.set_pin(Place { process, map }, page, true);
+        self.mappings
+            .set_pin(MappingKey { process, map }, page, true);
         Reply::Done
     }
 
@@ -271,7 +272,8 @@ impl Flat {
         if !mapping.pins.at(page) {
             return Reply::Refused(FlatRefusal::NotPinned);
         }
-        self.mappings.set_pin(Place { process, map }, page, false);
+        self.mappings
+            .set_pin(MappingKey { process, map }, page, false);
         Reply::Done
     }
 

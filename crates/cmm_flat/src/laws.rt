@@ -10,9 +10,9 @@ ghost use Rattle.cmm_types.specs.declared.command.Op.{Op};
 ghost use Rattle.cmm_types.specs.InRange.{OpInRange};
 ghost use Rattle.cmm_types.specs.Bytes.{bytes_at, with_bytes};
 ghost use Rattle.std.specs.FinMap as finite;
-ghost use Rattle.cmm_flat.specs.declared.mapping.Place.{Place};
+ghost use Rattle.cmm_flat.specs.declared.mapping.MappingKey.{MappingKey};
 ghost use Rattle.cmm_flat.specs.declared.mapping.Mapping.{Mapping};
-ghost use Rattle.cmm_flat.specs.Mapping.{place_cmp};
+ghost use Rattle.cmm_flat.specs.Mapping.{key_cmp};
 ghost use Rattle.cmm_flat.specs.WorkedJournals.{hello, hellp, reads_twice, read_twice, stores_twice, stored_twice, unmaps_and_loads, unmapped_first, loaded_first};
 ghost use Rattle.cmm_flat.specs.Laws.SumLaws.{number_before};
 ghost use Rattle.cmm_flat.specs.State.{FlatState, IsSound};
@@ -71,13 +71,13 @@ pub fn refusals_depend_on_lengths()
         → map length others ≡ map length state.files → refusal_of (record state { files = others }) process op ≡ refusal_of state process op }
 {}
 
-/// A sum over the live mappings changes at one place alone.
-pub fn sums_change_at_one_place()
-    ensures insert { (number : Place × Mapping → ℕ) (live : finite.FinMap place_cmp Mapping) (place : Place) (mapping : Mapping)
-        → sum_over number (finite.entries (finite.insert live place mapping)) + number_before number place (finite.get live place) ≡ sum_over number (finite.entries live) + number (place, mapping) }
-    ensures remove { (number : Place × Mapping → ℕ) (live : finite.FinMap place_cmp Mapping) (place : Place) (mapping : Mapping)
-        → finite.get live place ≡ Some mapping
-        → sum_over number (finite.entries (finite.remove live place)) + number (place, mapping) ≡ sum_over number (finite.entries live) }
+/// A sum over the live mappings changes by the mapping under one key alone.
+pub fn sums_change_at_one_key()
+    ensures insert { (number : MappingKey × Mapping → ℕ) (live : finite.FinMap key_cmp Mapping) (key : MappingKey) (mapping : Mapping)
+        → sum_over number (finite.entries (finite.insert live key mapping)) + number_before number key (finite.get live key) ≡ sum_over number (finite.entries live) + number (key, mapping) }
+    ensures remove { (number : MappingKey × Mapping → ℕ) (live : finite.FinMap key_cmp Mapping) (key : MappingKey) (mapping : Mapping)
+        → finite.get live key ≡ Some mapping
+        → sum_over number (finite.entries (finite.remove live key)) + number (key, mapping) ≡ sum_over number (finite.entries live) }
 {}
 
 /// The worked journals are legal, and no longer with another byte, number or order.

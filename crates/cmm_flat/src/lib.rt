@@ -16,9 +16,9 @@ pub use contents::Contents;
 pub use flat::Flat;
 pub use laws::{
     entry_takes_its_number, failure_leaves_state, flat_never_fails, journal_grows, ranges_apart,
-    refusals_depend_on_lengths, steps_stay_sound, sums_change_at_one_place, worked_journals,
+    refusals_depend_on_lengths, steps_stay_sound, sums_change_at_one_key, worked_journals,
 };
-pub use mapping::{Mapping, Place, Shown};
+pub use mapping::{Mapping, MappingKey, Shown};
 pub use mappings::Mappings;
 pub use pins::Pins;
 pub use std::alloc::AllocError as NoMemory;

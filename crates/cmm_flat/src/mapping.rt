@@ -7,9 +7,9 @@ use crate::contents::Contents;
 use crate::pins::Pins;
 use cmm_types::PAGE;
 
-/// Where a mapping is: its process, and its number there.
+/// The key of a mapping: its process, and its number there.
 #[derive(Clone, Copy, Debug, PartialEq, Eq, PartialOrd, Ord)]
-pub struct Place {
+pub struct MappingKey {
     pub process: u32,
     pub map: u32,
 }

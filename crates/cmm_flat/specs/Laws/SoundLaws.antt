@@ -5,8 +5,8 @@ use Rattle.std.specs.Ordering.{eq_by_cmp}
 use Rattle.std.specs.FinMap.{FinMap, get, empty, insert, remove, get-empty, get-insert, get-remove}
 use Rattle.cmm_types.specs.declared.page.TheConstants.{PAGE}
 use Rattle.cmm_flat.specs.declared.mapping.Mapping.{Mapping}
-use Rattle.cmm_flat.specs.Mapping.{place_cmp, HasRoom, written, with_pin}
-use Rattle.cmm_flat.specs.State.{ShowsPages, Shows, IsSound, place_of, file_at}
+use Rattle.cmm_flat.specs.Mapping.{key_cmp, HasRoom, written, with_pin}
+use Rattle.cmm_flat.specs.State.{ShowsPages, Shows, IsSound, key_of, file_at}
 use Rattle.cmm_types.specs.Bytes.{zeros}
 use Rattle.cmm_flat.specs.Flat.{in_file}
 use borrow.Author.Tests.{ltb-true, leb-true}
@@ -14,10 +14,10 @@ use Rattle.cmm_flat.specs.declared.mapping.Shown.TheVariants.{OfFile, Anonymous}
 use Rattle.cmm_flat.specs.declared.mapping.Shown.{Shown}
 use Rattle.cmm_flat.specs.Laws.BytesLaws.{length-with_bytes}
 use Rattle.cmm_types.specs.declared.command.TheConstants.{MAX_MAPPING_PAGES}
-use Rattle.cmm_flat.specs.Laws.PlaceLaws.{places_total}
+use Rattle.cmm_flat.specs.Laws.KeyLaws.{keys_total}
 
-pub sound_without : (files : List (List ℕ)) (m : FinMap place_cmp Mapping) → m ≡ empty → IsSound (record { files = files; mappings = m })
-sound_without files m e p n = subst (λ o. IfSome o (Shows files)) (sym (ap (λ (m : FinMap place_cmp Mapping). get m (place_of p n)) e ∙ get-empty place_cmp (place_of p n))) tt
+pub sound_without : (files : List (List ℕ)) (m : FinMap key_cmp Mapping) → m ≡ empty → IsSound (record { files = files; mappings = m })
+sound_without files m e p n = subst (λ o. IfSome o (Shows files)) (sym (ap (λ (m : FinMap key_cmp Mapping). get m (key_of p n)) e ∙ get-empty key_cmp (key_of p n))) tt
 
 either : {X : Type 0} (P : X → Type 0) (b : Bool) (x : X) (o : Option X) → P x → IfSome o P → IfSome (cond b (Some x) o) P
 either P true x o new old = new
@@ -27,17 +27,17 @@ fewer : {X : Type 0} (P : X → Type 0) (b : Bool) (o : Option X) → IfSome o P
 fewer P true o old = tt
 fewer P false o old = old
 
-pub sound_inserted : (files : List (List ℕ)) (m m' : FinMap place_cmp Mapping) (p n : ℕ) (v : Mapping) → m' ≡ insert m (place_of p n) v → Shows files v
+pub sound_inserted : (files : List (List ℕ)) (m m' : FinMap key_cmp Mapping) (p n : ℕ) (v : Mapping) → m' ≡ insert m (key_of p n) v → Shows files v
     → IsSound (record { files = files; mappings = m }) → IsSound (record { files = files; mappings = m' })
 sound_inserted files m m' p n v e shows sound q k =
-    subst (λ o. IfSome o (Shows files)) (sym (ap (λ (m : FinMap place_cmp Mapping). get m (place_of q k)) e ∙ get-insert places_total m (place_of p n) v (place_of q k)))
-    (either (Shows files) (eq_by_cmp place_cmp (place_of q k) (place_of p n)) v (get m (place_of q k)) shows (sound q k))
+    subst (λ o. IfSome o (Shows files)) (sym (ap (λ (m : FinMap key_cmp Mapping). get m (key_of q k)) e ∙ get-insert keys_total m (key_of p n) v (key_of q k)))
+    (either (Shows files) (eq_by_cmp key_cmp (key_of q k) (key_of p n)) v (get m (key_of q k)) shows (sound q k))
 
-pub sound_removed : (files : List (List ℕ)) (m m' : FinMap place_cmp Mapping) (p n : ℕ) → m' ≡ remove m (place_of p n) → IsSound (record { files = files; mappings = m })
+pub sound_removed : (files : List (List ℕ)) (m m' : FinMap key_cmp Mapping) (p n : ℕ) → m' ≡ remove m (key_of p n) → IsSound (record { files = files; mappings = m })
     → IsSound (record { files = files; mappings = m' })
 sound_removed files m m' p n e sound q k =
-    subst (λ o. IfSome o (Shows files)) (sym (ap (λ (m : FinMap place_cmp Mapping). get m (place_of q k)) e ∙ get-remove places_total m (place_of p n) (place_of q k)))
-    (fewer (Shows files) (eq_by_cmp place_cmp (place_of q k) (place_of p n)) (get m (place_of q k)) (sound q k))
+    subst (λ o. IfSome o (Shows files)) (sym (ap (λ (m : FinMap key_cmp Mapping). get m (key_of q k)) e ∙ get-remove keys_total m (key_of p n) (key_of q k)))
+    (fewer (Shows files) (eq_by_cmp key_cmp (key_of q k) (key_of p n)) (get m (key_of q k)) (sound q k))
 
 pub shows_pinned : (files : List (List ℕ)) (m : Mapping) (page : ℕ) (pin : Bool) → Shows files m → Shows files (with_pin m page pin)
 shows_pinned files m page pin shows = subst (λ n. (n ≤ MAX_MAPPING_PAGES) × ShowsPages files m.shown n) (sym (length-set m.pins page pin)) shows

@@ -10,46 +10,46 @@ use Rattle.cmm_types.specs.declared.command.Op.TheVariants.{Read, Write, MapFile
 use Rattle.cmm_types.specs.declared.command.Reply.TheVariants.{Done, Bytes, Refused}
 use Rattle.cmm_types.specs.declared.command.FlatRefusal.{FlatRefusal}
 use Rattle.cmm_types.specs.declared.command.FlatRefusal.TheVariants.{NoMapping, AlreadyMapped, OutOfRange, ReadOnly, Pinned, NotPinned, TooManyMaps}
-use Rattle.cmm_flat.specs.declared.mapping.Place.{Place}
+use Rattle.cmm_flat.specs.declared.mapping.MappingKey.{MappingKey}
 use Rattle.cmm_flat.specs.declared.mapping.Mapping.{Mapping}
 use Rattle.cmm_flat.specs.declared.mapping.Shown.TheVariants.{OfFile, Anonymous}
 use Rattle.cmm_types.specs.Bytes.{zeros, bytes_at}
-use Rattle.cmm_flat.specs.Mapping.{place_cmp, shows_writable, with_pin}
-use Rattle.cmm_flat.specs.Laws.PlaceLaws.{exact_places, places_total}
-use Rattle.cmm_flat.specs.State.{FlatState, place_of, mapping_at, file_at}
+use Rattle.cmm_flat.specs.Mapping.{key_cmp, shows_writable, with_pin}
+use Rattle.cmm_flat.specs.Laws.KeyLaws.{exact_keys, keys_total}
+use Rattle.cmm_flat.specs.State.{FlatState, key_of, mapping_at, file_at}
 use Rattle.cmm_flat.specs.Flat.{of_live, is_full, in_file, in_mapping, has_page, has_pin, pins_page, first_refusal, refusal_of, loaded}
 use Rattle.cmm_flat.specs.Flat.{with_file_bytes, with_mapping, without_mapping, stored, none_pinned, on_live, effect, unless_refused, flat_step}
 
 pub mapping_at-with_mapping : (state : FlatState) (process number : ℕ) (mapping : Mapping) → mapping_at (with_mapping state process number mapping) process number ≡ Some mapping
 mapping_at-with_mapping state process number mapping =
-    let q = place_of process number in
-    finite.get-insert places_total state.mappings q mapping q ∙ ap (λ r. cond (is_eq r) (Some mapping) (finite.get state.mappings q)) (tied_itself places_total q)
+    let q = key_of process number in
+    finite.get-insert keys_total state.mappings q mapping q ∙ ap (λ r. cond (is_eq r) (Some mapping) (finite.get state.mappings q)) (tied_itself keys_total q)
 
 pub mapping_at-without_mapping : (state : FlatState) (process number : ℕ) → mapping_at (without_mapping state process number) process number ≡ None
 mapping_at-without_mapping state process number =
-    let q = place_of process number in
-    finite.get-remove places_total state.mappings q q ∙ ap (λ r. cond (is_eq r) None (finite.get state.mappings q)) (tied_itself places_total q)
+    let q = key_of process number in
+    finite.get-remove keys_total state.mappings q q ∙ ap (λ r. cond (is_eq r) None (finite.get state.mappings q)) (tied_itself keys_total q)
 
--- places that differ compare so
-pub apart : (a b : Place) → a ≢ b → eq_by_cmp place_cmp a b ≡ false
+-- keys that differ compare so
+pub apart : (a b : MappingKey) → a ≢ b → eq_by_cmp key_cmp a b ≡ false
 apart a b differ =
-    elim (place_cmp a b) as (λ r. place_cmp a b ≡ r → is_eq r ≡ false) [
+    elim (key_cmp a b) as (λ r. key_cmp a b ≡ r → is_eq r ≡ false) [
       | Less ↦ λ _. refl
-      | Equal ↦ λ p. absurd (differ (exact_places a b p))
+      | Equal ↦ λ p. absurd (differ (exact_keys a b p))
       | Greater ↦ λ _. refl
     ] refl
 
 -- another process, or another number, keeps its mapping
-pub mapping_at-with_mapping_other : (state : FlatState) (process number : ℕ) (mapping : Mapping) (p n : ℕ) → place_of p n ≢ place_of process number
+pub mapping_at-with_mapping_other : (state : FlatState) (process number : ℕ) (mapping : Mapping) (p n : ℕ) → key_of p n ≢ key_of process number
     → mapping_at (with_mapping state process number mapping) p n ≡ mapping_at state p n
 mapping_at-with_mapping_other state process number mapping p n differ =
-    finite.get-insert places_total state.mappings (place_of process number) mapping (place_of p n)
-    ∙ ap (λ b. cond b (Some mapping) (mapping_at state p n)) (apart (place_of p n) (place_of process number) differ)
+    finite.get-insert keys_total state.mappings (key_of process number) mapping (key_of p n)
+    ∙ ap (λ b. cond b (Some mapping) (mapping_at state p n)) (apart (key_of p n) (key_of process number) differ)
 
-pub mapping_at-without_mapping_other : (state : FlatState) (process number p n : ℕ) → place_of p n ≢ place_of process number
+pub mapping_at-without_mapping_other : (state : FlatState) (process number p n : ℕ) → key_of p n ≢ key_of process number
     → mapping_at (without_mapping state process number) p n ≡ mapping_at state p n
 mapping_at-without_mapping_other state process number p n differ =
-    finite.get-remove places_total state.mappings (place_of process number) (place_of p n) ∙ ap (λ b. cond b None (mapping_at state p n)) (apart (place_of p n) (place_of process number) differ)
+    finite.get-remove keys_total state.mappings (key_of process number) (key_of p n) ∙ ap (λ b. cond b None (mapping_at state p n)) (apart (key_of p n) (key_of process number) differ)
 
 -- an operation without a refusal has its effect
 pub step_done : (state : FlatState) (process : ℕ) (op : Op) → refusal_of state process op ≡ None → flat_step state process op ≡ effect state process op

@@ -7,14 +7,14 @@ use Rattle.cmm_types.specs.declared.page.Tag.{Tag}
 use Rattle.cmm_types.specs.declared.page.Tag.TheVariants.{File, Anon}
 use Rattle.cmm_types.specs.Bytes.{bytes_at, with_bytes}
 use Rattle.cmm_io.specs.DiskView.{DiskView}
-use Rattle.cmm_flat.specs.declared.mapping.Place.{Place}
+use Rattle.cmm_flat.specs.declared.mapping.MappingKey.{MappingKey}
 use Rattle.cmm_flat.specs.declared.mapping.Mapping.{Mapping}
 use Rattle.cmm_flat.specs.declared.mapping.Shown.TheVariants.{Anonymous}
 use Rattle.cmm_flat.specs.Mapping.{written}
-use Rattle.cmm_flat.specs.State.{FlatState, IsSound, mapping_at, place_of}
+use Rattle.cmm_flat.specs.State.{FlatState, IsSound, mapping_at, key_of}
 use Rattle.cmm_flat.specs.Flat.{with_file_bytes, with_mapping}
 use Rattle.cmm_flat.specs.Laws.FlatLaws.{lengths-with_file_bytes, sound-lengths}
-use Rattle.cmm_flat.specs.Laws.PlaceLaws.{places_total}
+use Rattle.cmm_flat.specs.Laws.KeyLaws.{keys_total}
 use Rattle.cmm_flat.specs.Laws.StepLaws.{mapping_at-with_mapping, mapping_at-with_mapping_other}
 use Rattle.cmm_flat.specs.Laws.RangeLaws.{bytes_at-with_bytes_below, bytes_at-with_bytes_above, bytes_at-with_bytes_round}
 use Rattle.essa_state.specs.PageValue.{PageValue}
@@ -120,7 +120,7 @@ own_changes state g v d process number slot off bytes page tag found all f k is 
 
     other_place : (p n : ℕ) → (p ≡ process → n ≡ number → ⊥) → mapping_at later p n ≡ mapping_at state p n
     other_place p n differ =
-        mapping_at-with_mapping_other state process number (written k.at.its off bytes) p n (λ e. differ (ap (λ (x : Place). x.process) e) (ap (λ (x : Place). x.map) e))
+        mapping_at-with_mapping_other state process number (written k.at.its off bytes) p n (λ e. differ (ap (λ (x : MappingKey). x.process) e) (ap (λ (x : MappingKey). x.map) e))
 
     same_shape : shape_of (Some (written k.at.its off bytes)) ≡ shape_of (Some k.at.its)
     same_shape = ap (λ (m : Mapping). shape_of (Some (written m off bytes))) k.has ∙ sym (ap (λ (m : Mapping). shape_of (Some m)) k.has)
@@ -136,7 +136,7 @@ own_changes state g v d process number slot off bytes page tag found all f k is 
 
     count : finite.len later.mappings ≡ finite.len state.mappings
     count =
-        finite.len-insert places_total state.mappings (place_of process number) (written k.at.its off bytes)
+        finite.len-insert keys_total state.mappings (key_of process number) (written k.at.its off bytes)
         ∙ ap (λ (o : Option Mapping). cond (is_some o) (finite.len state.mappings) (finite.len state.mappings + 1)) k.at.there
 
     -- the page of another slot, or another page of this one

@@ -6,7 +6,7 @@ use Rattle.cmm_types.specs.declared.page.Tag.{Tag}
 use Rattle.cmm_types.specs.declared.page.Tag.TheVariants.{File, Anon}
 use Rattle.cmm_types.specs.Bytes.{zeros, bytes_at}
 use Rattle.cmm_io.specs.DiskView.{DiskView}
-use Rattle.cmm_flat.specs.declared.mapping.Place.{Place}
+use Rattle.cmm_flat.specs.declared.mapping.MappingKey.{MappingKey}
 use Rattle.cmm_flat.specs.declared.mapping.Mapping.{Mapping}
 use Rattle.cmm_flat.specs.declared.mapping.Shown.{Shown as FlatShown}
 use Rattle.cmm_flat.specs.declared.mapping.Shown.TheVariants.{Anonymous}
@@ -82,7 +82,7 @@ FlatFit-new state g v d slot process number count shown flat f k sound mine = re
           flat_page-at later now s i x.mapping (there ∙ x.at)
           ∙ ap (λ (o : Option Mapping). bytes_at (own_bytes o) (PAGE * i) PAGE)
           (mapping_at-with_mapping_other state process number (new_flat flat count) x.mapping.process x.mapping.map
-          (λ e. other (ap (λ (y : Place). y.process) e) (ap (λ (y : Place). y.map) e)))
+          (λ e. other (ap (λ (y : MappingKey). y.process) e) (ap (λ (y : MappingKey). y.map) e)))
           ∙ sym (flat_page-at state g.parts.maps s i x.mapping x.at)
           ∙ f.flat.pages (Anon s i) was
     ]

@@ -8,11 +8,11 @@ use Rattle.std.proofs.lemmas.Bool.{cases_eq}
 use Rattle.std.proofs.lemmas.Bool.Decides.{nat_tests}
 use Rattle.cmm_types.specs.declared.command.TheConstants.{MAX_MAPPING_PAGES}
 use Rattle.cmm_types.specs.declared.page.Tag.{Tag}
-use Rattle.cmm_flat.specs.declared.mapping.Place.{Place}
+use Rattle.cmm_flat.specs.declared.mapping.MappingKey.{MappingKey}
 use Rattle.cmm_flat.specs.declared.mapping.Mapping.{Mapping}
-use Rattle.cmm_flat.specs.Mapping.{place_cmp}
-use Rattle.cmm_flat.specs.State.{FlatState, mapping_at, place_of}
-use Rattle.cmm_flat.specs.Laws.PlaceLaws.{exact_places, places_total}
+use Rattle.cmm_flat.specs.Mapping.{key_cmp}
+use Rattle.cmm_flat.specs.State.{FlatState, mapping_at, key_of}
+use Rattle.cmm_flat.specs.Laws.KeyLaws.{exact_keys, keys_total}
 use Rattle.cmm_flat.specs.Laws.SumLaws.{sum_over-remove}
 use Rattle.cmm_flat.specs.Legal.{sum_over, pinned_pages, over_live}
 use Rattle.guest_pages.specs.PagesView.{info_at, free_info}
@@ -110,16 +110,16 @@ pinned_places parts pages pins =
 
 -- ---- and these are the flat machine's
 
-get_still : (m : FinMap place_cmp Mapping) (k q : Place) → q ≢ k → get (remove m k) q ≡ get m q
+get_still : (m : FinMap key_cmp Mapping) (k q : MappingKey) → q ≢ k → get (remove m k) q ≡ get m q
 get_still m k q n =
-    get-remove places_total m k q ∙ elim (place_cmp q k) as (λ r. place_cmp q k ≡ r → cond (is_eq r) None (get m q) ≡ get m q) [
+    get-remove keys_total m k q ∙ elim (key_cmp q k) as (λ r. key_cmp q k ≡ r → cond (is_eq r) None (get m q) ≡ get m q) [
       | Less ↦ λ _. refl
-      | Equal ↦ λ p. absurd (n (exact_places q k p))
+      | Equal ↦ λ p. absurd (n (exact_keys q k p))
       | Greater ↦ λ _. refl
     ] refl
 
 -- numbers that are at most those of mappings at different places are together at most the sum over all mappings
-pub sum_within : (R : ℕ → ℕ) (key : ℕ → Place) (number : Mapping → ℕ) (count : ℕ) (m : FinMap place_cmp Mapping)
+pub sum_within : (R : ℕ → ℕ) (key : ℕ → MappingKey) (number : Mapping → ℕ) (count : ℕ) (m : FinMap key_cmp Mapping)
     → ((i : ℕ) → i < count → R i ≢ 0 → (x : Mapping) × (get m (key i) ≡ Some x) × (R i ≤ number x))
     → ((i j : ℕ) → i < count → j < count → R i ≢ 0 → R j ≢ 0 → key i ≡ key j → i ≡ j) → sum_below R count ≤ sum_over (λ live. number live.1) (entries m)
 sum_within R key number zero m each apart = omega arith
@@ -135,9 +135,9 @@ sum_within R key number (suc count) m each apart = elim (cases_eq (R count) 0) [
 ]
 
 -- the place of the mapping in a slot
-abbrev pub key_of : Option Slot → Place
-key_of None = place_of 0 0
-key_of (Some mapping) = place_of mapping.process mapping.map
+abbrev pub slot_key : Option Slot → MappingKey
+slot_key None = key_of 0 0
+slot_key (Some mapping) = key_of mapping.process mapping.map
 
 -- nothing is pinned in a free slot
 free_row : (state : FlatState) (parts : Parts) (slot : ℕ) → SlotsFit state parts → slot_at parts.maps slot ≡ None → pinned_row parts.maps slot ≡ 0
@@ -179,7 +179,7 @@ live_row state parts slot mapping f at =
 
 -- the flat machine's mapping of a slot in which a page is pinned
 pinned_mapping : (state : FlatState) (g : GuestState) (slot : ℕ) (o : Option Slot) → SlotsFit state g.parts → TeardownsFit g → slot_at g.parts.maps slot ≡ o → pinned_row g.parts.maps slot ≢ 0
-    → (x : Mapping) × (get state.mappings (key_of o) ≡ Some x) × (pinned_row g.parts.maps slot ≤ pinned_pages x)
+    → (x : Mapping) × (get state.mappings (slot_key o) ≡ Some x) × (pinned_row g.parts.maps slot ≤ pinned_pages x)
 pinned_mapping state g slot None f teardowns at some = absurd (some (free_row state g.parts slot f at))
 pinned_mapping state g slot (Some mapping) f teardowns at some =
     let k = shape_some (mapping_at state mapping.process mapping.map) (flat_slot g.parts.maps slot mapping)
@@ -188,15 +188,15 @@ pinned_mapping state g slot (Some mapping) f teardowns at some =
 
 -- no two of them are of one place
 apart_mappings : (state : FlatState) (g : GuestState) (slot other : ℕ) (o p : Option Slot) → SlotsFit state g.parts → TeardownsFit g → slot_at g.parts.maps slot ≡ o
-    → slot_at g.parts.maps other ≡ p → pinned_row g.parts.maps slot ≢ 0 → pinned_row g.parts.maps other ≢ 0 → key_of o ≡ key_of p → slot ≡ other
+    → slot_at g.parts.maps other ≡ p → pinned_row g.parts.maps slot ≢ 0 → pinned_row g.parts.maps other ≢ 0 → slot_key o ≡ slot_key p → slot ≡ other
 apart_mappings state g slot other None p f teardowns at there some more same = absurd (some (free_row state g.parts slot f at))
 apart_mappings state g slot other (Some mapping) None f teardowns at there some more same = absurd (more (free_row state g.parts other f there))
 apart_mappings state g slot other (Some mapping) (Some another) f teardowns at there some more same =
-    f.apart slot other mapping another at there (pinned_live g slot mapping teardowns at some) (pinned_live g other another teardowns there more) (ap (λ (k : Place). k.process) same)
-    (ap (λ (k : Place). k.map) same)
+    f.apart slot other mapping another at there (pinned_live g slot mapping teardowns at some) (pinned_live g other another teardowns there more) (ap (λ (k : MappingKey). k.process) same)
+    (ap (λ (k : MappingKey). k.map) same)
 
 pub pinned_rows : (state : FlatState) (g : GuestState) (count : ℕ) → SlotsFit state g.parts → TeardownsFit g → sum_below (pinned_row g.parts.maps) count ≤ over_live pinned_pages state
 pinned_rows state g count f teardowns =
-    sum_within (pinned_row g.parts.maps) (λ slot. key_of (slot_at g.parts.maps slot)) pinned_pages count state.mappings
+    sum_within (pinned_row g.parts.maps) (λ slot. slot_key (slot_at g.parts.maps slot)) pinned_pages count state.mappings
     (λ slot below some. pinned_mapping state g slot (slot_at g.parts.maps slot) f teardowns refl some)
     (λ slot other a b some more same. apart_mappings state g slot other (slot_at g.parts.maps slot) (slot_at g.parts.maps other) f teardowns refl refl some more same)

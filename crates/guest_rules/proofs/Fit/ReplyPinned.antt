@@ -7,7 +7,7 @@ use Rattle.cmm_types.specs.declared.command.Op.{Op}
 use Rattle.cmm_types.specs.declared.command.Reply.{Reply}
 use Rattle.cmm_types.specs.declared.command.Reply.TheVariants.{Done}
 use Rattle.cmm_io.specs.DiskView.{DiskView}
-use Rattle.cmm_flat.specs.declared.mapping.Place.{Place}
+use Rattle.cmm_flat.specs.declared.mapping.MappingKey.{MappingKey}
 use Rattle.cmm_flat.specs.declared.mapping.Mapping.{Mapping}
 use Rattle.cmm_flat.specs.Mapping.{with_pin}
 use Rattle.cmm_flat.specs.State.{FlatState, IsSound, mapping_at}
@@ -141,4 +141,4 @@ Fit-pinned g v d w e cpu pins number index slot tag page found after f starts wa
       where
         other : (p n : ℕ) → (p ≡ process → n ≡ number → ⊥) → mapping_at later p n ≡ mapping_at flat p n
         other p n differ =
-            mapping_at-with_mapping_other flat process number (with_pin mapped.its index pins) p n (λ e. differ (ap (λ (x : Place). x.process) e) (ap (λ (x : Place). x.map) e))
+            mapping_at-with_mapping_other flat process number (with_pin mapped.its index pins) p n (λ e. differ (ap (λ (x : MappingKey). x.process) e) (ap (λ (x : MappingKey). x.map) e))

@@ -11,7 +11,7 @@ use Rattle.cmm_flat.specs.State.{FlatState, IsSound}
 use Rattle.cmm_flat.specs.Flat.{without_mapping, flat_step}
 use Rattle.cmm_flat.specs.Laws.StepLaws.{step_done, mapping_at-without_mapping_other}
 use Rattle.cmm_flat.specs.Laws.FlatLaws.{sound-flat_step}
-use Rattle.cmm_flat.specs.declared.mapping.Place.{Place}
+use Rattle.cmm_flat.specs.declared.mapping.MappingKey.{MappingKey}
 use Rattle.cmm_flat.specs.declared.mapping.Mapping.{Mapping}
 use Rattle.cmm_types.specs.Bytes.{bytes_at}
 use Rattle.cmm_types.specs.declared.page.TheConstants.{PAGE}
@@ -176,7 +176,7 @@ Fit-unmapped g v d cpu number slot f starts found =
             n (f.slots.apart s slot x.mapping tears.mapping x.at tears.at x.live tears.live (p ∙ sym tears.its.0) (q ∙ sym tears.its.1)) in
             flat_page-at later now s i x.mapping (elsewhere s n ∙ x.at)
             ∙ ap (λ (o : Option Mapping). bytes_at (own_bytes o) (PAGE * i) PAGE)
-            (mapping_at-without_mapping_other flat process number x.mapping.process x.mapping.map (λ e. other (ap (λ (y : Place). y.process) e) (ap (λ (y : Place). y.map) e)))
+            (mapping_at-without_mapping_other flat process number x.mapping.process x.mapping.map (λ e. other (ap (λ (y : MappingKey). y.process) e) (ap (λ (y : MappingKey). y.map) e)))
             ∙ sym (flat_page-at flat g.parts.maps s i x.mapping x.at)
             ∙ f.flat.pages (Anon s i) was
 

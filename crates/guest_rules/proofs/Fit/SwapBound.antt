@@ -11,7 +11,7 @@ use Rattle.cmm_types.specs.declared.command.TheConstants.{MAX_MAPPING_PAGES}
 use Rattle.cmm_types.specs.declared.page.Tag.{Tag}
 use Rattle.cmm_types.specs.declared.page.Tag.TheVariants.{File, Anon}
 use Rattle.cmm_flat.specs.declared.mapping.Mapping.{Mapping}
-use Rattle.cmm_flat.specs.declared.mapping.Place.{Place}
+use Rattle.cmm_flat.specs.declared.mapping.MappingKey.{MappingKey}
 use Rattle.cmm_flat.specs.State.{FlatState}
 use Rattle.cmm_flat.specs.Legal.{HasNoPage, Progress, at_start, progress_of, flat_of, start_of, anonymous_pages, over_live}
 use Rattle.cmm_flat.specs.Laws.LegalLaws.{length-cpus, length-start}
@@ -39,7 +39,7 @@ use Rattle.guest_rules.proofs.Kept.SwapLaws.{swap_tag, holds-is, swap_slot-nowhe
 use Rattle.guest_rules.proofs.Kept.FlatTags.{finds, flat_mapped, mapped-pages}
 use Rattle.guest_rules.proofs.Kept.Sums.{sum_below-mono, sum_below-swap, sum_below-single, count_below, sum_below-list, some_below, at_most, at_most-then}
 use Rattle.guest_rules.proofs.Fit.FitEntered.{walk_at}
-use Rattle.guest_rules.proofs.Fit.PinnedBound.{key_of, sum_within, pinned_places, pinned_rows}
+use Rattle.guest_rules.proofs.Fit.PinnedBound.{slot_key, sum_within, pinned_places, pinned_rows}
 
 -- ---- sums
 
@@ -322,14 +322,14 @@ live_is mapping live = rw live refl
 
 live_rows : (state : FlatState) (g : GuestState) → SlotsFit state g.parts → sum_below (λ slot. live_own (slot_at g.parts.maps slot)) (length g.parts.maps.slots) ≤ over_live anonymous_pages state
 live_rows state g f =
-    sum_within (λ slot. live_own (slot_at g.parts.maps slot)) (λ slot. key_of (slot_at g.parts.maps slot)) anonymous_pages (length g.parts.maps.slots) state.mappings
+    sum_within (λ slot. live_own (slot_at g.parts.maps slot)) (λ slot. slot_key (slot_at g.parts.maps slot)) anonymous_pages (length g.parts.maps.slots) state.mappings
     (λ slot below some. mapping_of slot (slot_at g.parts.maps slot) refl some)
     (λ slot other a b some more same. apart slot other (slot_at g.parts.maps slot) (slot_at g.parts.maps other) refl refl some more same)
   where
     slot_exact : (a b : Slot) → Some a ≡ Some b → a ≡ b
     slot_exact a b e = cc
 
-    mapping_of : (slot : ℕ) (o : Option Slot) → slot_at g.parts.maps slot ≡ o → live_own o ≢ 0 → (x : Mapping) × (get state.mappings (key_of o) ≡ Some x) × (live_own o ≤ anonymous_pages x)
+    mapping_of : (slot : ℕ) (o : Option Slot) → slot_at g.parts.maps slot ≡ o → live_own o ≢ 0 → (x : Mapping) × (get state.mappings (slot_key o) ≡ Some x) × (live_own o ≤ anonymous_pages x)
     mapping_of slot None at some = absurd (some refl)
     mapping_of slot (Some mapping) at some =
         let live = is_live_own mapping some in
@@ -337,11 +337,11 @@ live_rows state g f =
         let same : k.found.mapping ≡ mapping = slot_exact k.found.mapping mapping (sym k.found.at ∙ at) in
         (k.its, k.there, at_most (live_is mapping live ∙ ap (λ (m : Slot). own_pages (Some m)) (sym same) ∙ sym (mapped-pages state g.parts mapping.process mapping.map slot k)))
 
-    apart : (slot other : ℕ) (o p : Option Slot) → slot_at g.parts.maps slot ≡ o → slot_at g.parts.maps other ≡ p → live_own o ≢ 0 → live_own p ≢ 0 → key_of o ≡ key_of p → slot ≡ other
+    apart : (slot other : ℕ) (o p : Option Slot) → slot_at g.parts.maps slot ≡ o → slot_at g.parts.maps other ≡ p → live_own o ≢ 0 → live_own p ≢ 0 → slot_key o ≡ slot_key p → slot ≡ other
     apart slot other None p at there some more same = absurd (some refl)
     apart slot other (Some mapping) None at there some more same = absurd (more refl)
     apart slot other (Some mapping) (Some another) at there some more same =
-        f.apart slot other mapping another at there (is_live_own mapping some) (is_live_own another more) (ap (λ (k : Place). k.process) same) (ap (λ (k : Place). k.map) same)
+        f.apart slot other mapping another at there (is_live_own mapping some) (is_live_own another more) (ap (λ (k : MappingKey). k.process) same) (ap (λ (k : MappingKey). k.map) same)
 
 -- what a processor's last entry ended, if its unmap takes the pages off the slot
 abbrev ends_at : GuestState → (cpu slot : ℕ) → ℕ

@@ -7,12 +7,12 @@ use Rattle.std.proofs.lemmas.Bool.{cases_eq, cases_lt, false_from_ne_true, ltb-t
 use Rattle.std.proofs.lemmas.Bool.Decides.{nat_tests}
 use Rattle.std.proofs.lemmas.List.{get_or_past}
 use Rattle.cmm_types.specs.declared.command.TheConstants.{MAX_MAPPING_PAGES}
-use Rattle.cmm_flat.specs.declared.mapping.Place.{Place}
+use Rattle.cmm_flat.specs.declared.mapping.MappingKey.{MappingKey}
 use Rattle.cmm_flat.specs.declared.mapping.Mapping.{Mapping}
 use Rattle.cmm_flat.specs.declared.mapping.Shown.{Shown as FlatShown}
 use Rattle.cmm_flat.specs.Mapping.{with_pin}
-use Rattle.cmm_flat.specs.Laws.PlaceLaws.{places_total}
-use Rattle.cmm_flat.specs.State.{FlatState, mapping_at, place_of}
+use Rattle.cmm_flat.specs.Laws.KeyLaws.{keys_total}
+use Rattle.cmm_flat.specs.State.{FlatState, mapping_at, key_of}
 use Rattle.cmm_flat.specs.Flat.{none_pinned, with_mapping as flat_with_mapping, without_mapping}
 use Rattle.cmm_flat.specs.Laws.StepLaws.{mapping_at-with_mapping, mapping_at-with_mapping_other, mapping_at-without_mapping, mapping_at-without_mapping_other}
 use Rattle.guest_maps.specs.declared.slot.Slot.{Slot}
@@ -72,7 +72,7 @@ SlotsFit-kept state later old new f mappings slots entries pinned pages infos fi
   pinned = ap length pinned ∙ f.pinned;
   pages = pages ∙ f.pages ∙ sym infos;
   apart = λ slot other mapping another e e'. f.apart slot other mapping another (rw slots at e) (rw slots at e');
-  flat = λ process number. ap (λ m. shape_of (finite.get m (place_of process number))) mappings ∙ f.flat process number ∙ sym (found process number);
+  flat = λ process number. ap (λ m. shape_of (finite.get m (key_of process number))) mappings ∙ f.flat process number ∙ sym (found process number);
   counted = ap (λ m. finite.len m) mappings ∙ f.counted ∙ ap (λ xs. of_live xs) (sym slots);
   some = λ slot mapping e. f.some slot mapping (rw slots at e);
   shown = λ slot mapping e. let k = f.shown slot mapping (rw slots at e) in (k.0, shows-files old.cache new.cache mapping.shown mapping.count files k.1);
@@ -229,7 +229,7 @@ SlotsFit-mapped state old new slot process number count shown flat f k shape is 
 
     other : (p n : ℕ) → (process ≡ p → number ≡ n → ⊥) → shape_of (mapping_at (flat_with_mapping state process number (new_flat flat count)) p n) ≡ flat_found now (find_slot now p n)
     other p n differ =
-        ap shape_of (mapping_at-with_mapping_other state process number (new_flat flat count) p n (λ e. differ (ap (λ (x : Place). x.process) (sym e)) (ap (λ (x : Place). x.map) (sym e))))
+        ap shape_of (mapping_at-with_mapping_other state process number (new_flat flat count) p n (λ e. differ (ap (λ (x : MappingKey). x.process) (sym e)) (ap (λ (x : MappingKey). x.map) (sym e))))
         ∙ f.flat p n
         ∙ sym (ap (flat_found now) (find_slot-with_mapping_other old.maps slot process number p n shown count free differ) ∙ of (find_slot old.maps p n) refl)
       where
@@ -243,7 +243,7 @@ SlotsFit-mapped state old new slot process number count shown flat f k shape is 
     len_more : finite.len (flat_with_mapping state process number (new_flat flat count)).mappings ≡ finite.len state.mappings + 1
     len_more =
         let new : mapping_at state process number ≡ None = shape_none (mapping_at state process number) (f.flat process number ∙ ap (flat_found old.maps) k.none) in
-        finite.len-insert places_total state.mappings (place_of process number) (new_flat flat count)
+        finite.len-insert keys_total state.mappings (key_of process number) (new_flat flat count)
         ∙ ap (λ (o : Option Mapping). cond (is_some o) (finite.len state.mappings) (finite.len state.mappings + 1)) new
 
 -- what the flat machine has of a mapping whose page is pinned, or unpinned
@@ -270,7 +270,7 @@ SlotsFit-pinned state old new process number slot index pins its f k was change 
     | inr m ↦ other p n (λ q r. m q)
   ];
   counted =
-      finite.len-insert places_total state.mappings (place_of process number) mine
+      finite.len-insert keys_total state.mappings (key_of process number) mine
       ∙ ap (λ (o : Option Mapping). cond (is_some o) (finite.len state.mappings) (finite.len state.mappings + 1)) was
       ∙ f.counted
       ∙ ap (λ xs. of_live xs) (sym slots);
@@ -305,7 +305,7 @@ SlotsFit-pinned state old new process number slot index pins its f k was change 
 
     other : (p n : ℕ) → (p ≡ process → n ≡ number → ⊥) → shape_of (mapping_at (flat_with_mapping state process number mine) p n) ≡ flat_found new.maps (find_slot new.maps p n)
     other p n differ =
-        ap shape_of (mapping_at-with_mapping_other state process number mine p n (λ e. differ (ap (λ (x : Place). x.process) e) (ap (λ (x : Place). x.map) e)))
+        ap shape_of (mapping_at-with_mapping_other state process number mine p n (λ e. differ (ap (λ (x : MappingKey). x.process) e) (ap (λ (x : MappingKey). x.map) e)))
         ∙ f.flat p n
         ∙ sym (ap (flat_found new.maps) (found_same p n) ∙ of (find_slot old.maps p n) refl)
       where
@@ -363,7 +363,7 @@ SlotsFit-torn state old slot process number f found = record {
     | inr m ↦ other p n (λ q r. m q)
   ];
   counted =
-      finite.len-remove places_total state.mappings (place_of process number)
+      finite.len-remove keys_total state.mappings (key_of process number)
       ∙ ap (λ (o : Option Mapping). cond (is_some o) (finite.len state.mappings - 1) (finite.len state.mappings)) was.1
       ∙ omega (arith, f.counted, live_slots-torn_slot old.maps slot live);
   some = λ s mapping e. elim (cases_eq s slot) [
@@ -417,7 +417,7 @@ SlotsFit-torn state old slot process number f found = record {
 
     other : (p n : ℕ) → (p ≡ process → n ≡ number → ⊥) → shape_of (mapping_at (without_mapping state process number) p n) ≡ flat_found now (find_slot now p n)
     other p n differ =
-        ap shape_of (mapping_at-without_mapping_other state process number p n (λ e. differ (ap (λ (x : Place). x.process) e) (ap (λ (x : Place). x.map) e)))
+        ap shape_of (mapping_at-without_mapping_other state process number p n (λ e. differ (ap (λ (x : MappingKey). x.process) e) (ap (λ (x : MappingKey). x.map) e)))
         ∙ f.flat p n
         ∙ sym (ap (flat_found now) (find_slot-torn_slot_other old.maps slot p n not_its) ∙ flat_other old.maps now slot (find_slot old.maps p n) there pins apart)
       where

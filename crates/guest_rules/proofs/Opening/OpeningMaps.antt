@@ -8,8 +8,8 @@ use Rattle.cmm_types.specs.declared.plan.TheConstants.{MAX_MAPPING_SLOTS}
 use Rattle.cmm_types.specs.declared.page.Tag.{Tag}
 use Rattle.cmm_types.specs.declared.plan.GuestPlan.{GuestPlan}
 use Rattle.cmm_flat.specs.declared.mapping.Mapping.{Mapping}
-use Rattle.cmm_flat.specs.Mapping.{place_cmp}
-use Rattle.cmm_flat.specs.State.{opening, place_of}
+use Rattle.cmm_flat.specs.Mapping.{key_cmp}
+use Rattle.cmm_flat.specs.State.{opening, key_of}
 use Rattle.guest_pages.specs.declared.info.PageInfo.{PageInfo}
 use Rattle.guest_pages.specs.PagesView.{free_info, info_at, opening_pages}
 use Rattle.guest_maps.specs.declared.slot.Pte.{Pte}
@@ -49,9 +49,9 @@ SlotsFit-opening plan = record {
   pages = sym (length-replicate plan.pages free_info);
   apart = λ slot other mapping another e e' live live' process number. absurd (none_slot plan slot mapping e);
   flat = λ process number.
-      ap shape_of (finite.get-empty place_cmp (place_of process number))
+      ap shape_of (finite.get-empty key_cmp (key_of process number))
       ∙ sym (ap (flat_found (opening_maps plan.pages MAX_MAPPING_SLOTS)) (find_slot-opening plan.pages MAX_MAPPING_SLOTS process number));
-  counted = finite.len-empty place_cmp Mapping ∙ sym (live_slots-opening plan.pages MAX_MAPPING_SLOTS);
+  counted = finite.len-empty key_cmp Mapping ∙ sym (live_slots-opening plan.pages MAX_MAPPING_SLOTS);
   some = λ slot mapping e. absurd (none_slot plan slot mapping e);
   shown = λ slot mapping e. absurd (none_slot plan slot mapping e);
   placed = λ slot index below e. absurd (none_pinned plan slot index e);

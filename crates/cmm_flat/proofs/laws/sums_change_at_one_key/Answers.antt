@@ -1,5 +1,5 @@
 use Rattle.cmm_flat.specs.Laws.SumLaws.{sum_over-insert, sum_over-remove}
-use Rattle.cmm_flat.proofs.laws.sums_change_at_one_place.Goals as goal
+use Rattle.cmm_flat.proofs.laws.sums_change_at_one_key.Goals as goal
 
 pub returns-clause-insert : goal.returns-clause-insert
 returns-clause-insert c = sum_over-insert
