@@ -4,6 +4,7 @@ use Rattle.std.proofs.Common.{List, length, Option, Some, None, slice_index_or, 
 use Rattle.std.proofs.lemmas.Bool.{cases_lt}
 use Rattle.std.proofs.lemmas.Bool.Decides.{nat_tests}
 use Rattle.std.proofs.lemmas.List.{get_or-set_same}
+use Rattle.std.proofs.lemmas.Option.{same_Some}
 use Rattle.cmm_types.specs.declared.page.Tag.{Tag}
 use Rattle.cmm_types.specs.declared.page.Tag.TheVariants.{File, Anon}
 use Rattle.cmm_types.specs.declared.command.TheConstants.{MAX_MAPPING_PAGES}
@@ -147,19 +148,13 @@ off-by step view meets inside g s t d cpu slot index pte a r same f k entry run 
 
 -- ---- a page of a mapping of pages of its own
 
-same_tag : {a b : Tag} → Some a ≡ Some b → a ≡ b
-same_tag e = cc
-
-same_page : {a b : ℕ} → Some a ≡ Some b → a ≡ b
-same_page e = cc
-
 -- the entry there shows the page that has the tag
 shows-own : (g : GuestState) (v : StorageView) (d : DiskView) (slot index page : ℕ) → Fit g v d → index < MAX_MAPPING_PAGES → tag_at g.parts.maps slot index ≡ Some (Anon slot index)
     → page_of g.parts.cache (Anon slot index) ≡ Some page → (pte : Pte) → entry_at g.parts.maps slot index ≡ Some pte → pte.page ≡ page
 shows-own g v d slot index page f below own there pte entry =
     let its = f.entries.entry slot index pte below entry in
-    let tag : its.tag ≡ Anon slot index = same_tag (sym its.mapped ∙ own) in
-    same_page (sym (ap (page_of g.parts.cache) (sym tag) ∙ (f.pages.indexed pte.page its.tag its.tagged).1) ∙ there)
+    let tag : its.tag ≡ Anon slot index = same_Some _ _ (sym its.mapped ∙ own) in
+    same_Some _ _ (sym (ap (page_of g.parts.cache) (sym tag) ∙ (f.pages.indexed pte.page its.tag its.tagged).1) ∙ there)
 
 -- and there is none where no page has it
 pub bare-own : (g : GuestState) (v : StorageView) (d : DiskView) (slot index : ℕ) → Fit g v d → index < MAX_MAPPING_PAGES → tag_at g.parts.maps slot index ≡ Some (Anon slot index)
@@ -170,7 +165,7 @@ bare-own g v d slot index f below own none = of (entry_at g.parts.maps slot inde
     of None e = refl
     of (Some pte) e =
         let its = f.entries.entry slot index pte below e in
-        let tag : its.tag ≡ Anon slot index = same_tag (sym its.mapped ∙ own) in
+        let tag : its.tag ≡ Anon slot index = same_Some _ _ (sym its.mapped ∙ own) in
         let bad : None ≡ Some pte.page = sym none ∙ ap (page_of g.parts.cache) (sym tag) ∙ (f.pages.indexed pte.page its.tag its.tagged).1 in
         absurd cc
 
@@ -281,7 +276,7 @@ tears-shown g cpu slot index k =
 -- at a page of a mapping of a file
 pub tears-file : (g : GuestState) (cpu slot index file at : ℕ) → IsTearing g cpu slot index → tag_at g.parts.maps slot index ≡ Some (File file at)
     → teardown_turn g cpu slot index ≡ teardown_entry g cpu slot index (mapping_pages (slot_at g.parts.maps slot)) (entry_at g.parts.maps slot index)
-tears-file g cpu slot index file at k tag = tears-shown g cpu slot index k ∙ of k.mapping.shown (same_tag (sym (tag_at-place g.parts.maps slot index k.mapping k.at k.within) ∙ tag))
+tears-file g cpu slot index file at k tag = tears-shown g cpu slot index k ∙ of k.mapping.shown (same_Some _ _ (sym (tag_at-place g.parts.maps slot index k.mapping k.at k.within) ∙ tag))
   where
     of : (s : Shown) → tag_of s slot index ≡ File file at
         → teardown_shown g cpu slot index (mapping_pages (slot_at g.parts.maps slot)) s
@@ -294,7 +289,7 @@ pub tears-own : (g : GuestState) (cpu slot index other at : ℕ) → IsTearing g
     → (teardown_turn g cpu slot index ≡ teardown_page g cpu slot index (mapping_pages (slot_at g.parts.maps slot)) (page_of g.parts.cache (Anon slot index)))
     × (tag_at g.parts.maps slot index ≡ Some (Anon slot index))
 tears-own g cpu slot index other at k tag =
-    let its = of k.mapping.shown (same_tag (sym (tag_at-place g.parts.maps slot index k.mapping k.at k.within) ∙ tag)) in
+    let its = of k.mapping.shown (same_Some _ _ (sym (tag_at-place g.parts.maps slot index k.mapping k.at k.within) ∙ tag)) in
     (tears-shown g cpu slot index k ∙ its.0, tag_at-place g.parts.maps slot index k.mapping k.at k.within ∙ ap (λ (t : Tag). Some t) its.1)
   where
     of : (s : Shown) → tag_of s slot index ≡ Anon other at

@@ -3,6 +3,7 @@ use Rattle.std.specs.Prelude.{◌≡◌, refl, ℕ, ◌+◌, ◌<◌, ◌≤◌,
 use Rattle.std.proofs.Common.{arith, ap, sym, subst, inl, inr, ◌∙◌, get_or-set_other, get_or-set_same}
 use Rattle.std.proofs.Math.ListN.{length-set}
 use Rattle.std.proofs.lemmas.Bool.{cases_eq}
+use Rattle.std.proofs.lemmas.Option.{same_Some}
 use Rattle.cmm_types.specs.declared.page.TheConstants.{PAGE}
 use Rattle.cmm_types.specs.declared.page.Move.{Move}
 use Rattle.cmm_io.specs.FailurePlan.{FailurePlan}
@@ -104,8 +105,8 @@ taken-host h page is inside none =
       memory = busy-word m place true is.memory below;
       starts = rw (length-set m.words place word) is.starts;
       guest = is.guest;
-      below = λ other there. subst (λ p. p < pages_of h h.guest) (some-same page other there) inside;
-      busy = λ other there. subst (λ p. (word_at (with_word m place word) (list_place h p)).busy ≡ true) (some-same page other there) (rw (get_or-set_same m.words place word opening_word below) refl);
+      below = λ other there. subst (λ p. p < pages_of h h.guest) (same_Some page other there) inside;
+      busy = λ other there. subst (λ p. (word_at (with_word m place word) (list_place h p)).busy ≡ true) (same_Some page other there) (rw (get_or-set_same m.words place word opening_word below) refl);
       others = λ k busy. elim (cases_eq k place) [
         | inl e ↦ ap Some (sym e)
         | inr n ↦ absurd (none-held k (subst (λ held. held_place h held ≡ Some k) none (is.others k (sym (ap (λ (w : Fields). w.busy) (get_or-set_other m.words place k word opening_word n)) ∙ busy))))
@@ -113,9 +114,6 @@ taken-host h page is inside none =
       resident = λ other there touched. absurd (cc);
     }
   where
-    some-same : (a b : ℕ) → Some a ≡ Some b → a ≡ b
-    some-same a b e = cc
-
     none-held : (k : ℕ) → None ≡ Some k → ⊥
     none-held k e = cc
 

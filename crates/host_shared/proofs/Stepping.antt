@@ -1,7 +1,7 @@
 -- What each call makes of a bound storage, as a whole.
 use Rattle.std.specs.Prelude.{◌≡◌, ℕ, ◌^◌, ◌<◌, ◌≤◌, List, length, take, drop, Bool, true, false, Option, Some, None, Result, Ok, Err, is_some, slice_get, slice_index_or, refl}
 use Rattle.std.specs.Option.{ForSome}
-use Rattle.std.proofs.lemmas.Option.{slice_get_within, get_or_from_slice_get}
+use Rattle.std.proofs.lemmas.Option.{slice_get_within, get_or_from_slice_get, same_Some}
 use Rattle.std.proofs.Common.{arith, ap, sym, subst, ◌∙◌}
 use Rattle.cmm_io.specs.FailurePlan.{FailurePlan}
 use Rattle.essa_state.specs.declared.fields.Fields.{Fields}
@@ -44,17 +44,8 @@ with_seat s seat held = record s { seat = seat; held = held }
 pub same_seat : (a b : Seated) → a.words ≡ b.words → a.view ≡ b.view → a ≡ b
 same_seat a b words view = λ i. record { words = words i; view = view i }
 
-page_is : (a b : ℕ) → Some a ≡ Some b → a ≡ b
-page_is a b e = cc
-
-held_is : (a b : HeldState) → Some a ≡ Some b → a ≡ b
-held_is a b e = cc
-
-hold_is : (a b : Hold) → Some a ≡ Some b → a ≡ b
-hold_is a b e = cc
-
 pub page_held : (held : Option HeldState) (h : HeldState) (page : ℕ) → held ≡ Some h → held_page held ≡ Some page → h.page ≡ page
-page_held held h page e r = page_is h.page page (ap held_page (sym e) ∙ r)
+page_held held h page e r = same_Some h.page page (ap held_page (sym e) ∙ r)
 
 -- a fact on the page that is held
 pub at-call : (P : Option HeldState → ℕ → Type 0) (held : Option HeldState) (h : HeldState) (page : ℕ) → held ≡ Some h → held_page held ≡ Some page → P (Some h) h.page → P held page
@@ -86,11 +77,11 @@ tied_taken seat page word parts h there housed is = record {
   page = ap page_of_hold there ∙ ap (λ (q : HeldState). Some q.page) (sym is);
   leads = λ hold k e f.
       let first : Hold = record { page = page; word = word; body = lent_body parts } in
-      let same : first ≡ hold = hold_is first hold (sym there ∙ e) in
-      let held : h ≡ k = held_is h k f in
+      let same : first ≡ hold = same_Some first hold (sym there ∙ e) in
+      let held : h ≡ k = same_Some h k f in
       subst (λ (q : HeldState). Leads hold.word hold.body q.word (lent_body q.parts)) (sym is ∙ held)
       (subst (λ (q : Hold). Leads q.word q.body word (lent_body parts)) same (Leads-same word (lent_body parts)));
-  housed = λ k f. subst (λ (q : HeldState). body_house q.parts ≡ seat.words.house) (sym is ∙ held_is h k f) housed;
+  housed = λ k f. subst (λ (q : HeldState). body_house q.parts ≡ seat.words.house) (sym is ∙ same_Some h k f) housed;
 }
 
 pub sound_taken : (s : StorageState) (seat : Seated) (page : ℕ) (word : Fields) (parts : BodyParts) (h : HeldState) → IsStorage s → IsGuestSeat seat →
@@ -99,7 +90,7 @@ pub sound_taken : (s : StorageState) (seat : Seated) (page : ℕ) (word : Fields
 sound_taken s seat page word parts h is guest there housed made held = record {
   seat = guest;
   tied = tied_taken seat page word parts h there housed made;
-  sound = λ k e. subst IsHeldPage (held_is h k e) held;
+  sound = λ k e. subst IsHeldPage (same_Some h k e) held;
   few = is.few;
 }
 
@@ -113,10 +104,10 @@ sound_held s hosts pool pager h k nf is held page of_pool goes sound few = recor
   seat = is.seat;
   tied = record {
     page = is.tied.page ∙ ap held_page held ∙ ap (λ (p : ℕ). Some p) (sym page);
-    leads = λ hold x e f. subst (λ (q : HeldState). Leads hold.word hold.body q.word (lent_body q.parts)) (held_is k x f) (goes hold.word hold.body (is.tied.leads hold h e held));
-    housed = λ x f. subst (λ (q : HeldState). body_house q.parts ≡ s.seat.words.house) (held_is k x f) (ap (λ (q : PoolId). q.table) of_pool ∙ is.tied.housed h held);
+    leads = λ hold x e f. subst (λ (q : HeldState). Leads hold.word hold.body q.word (lent_body q.parts)) (same_Some k x f) (goes hold.word hold.body (is.tied.leads hold h e held));
+    housed = λ x f. subst (λ (q : HeldState). body_house q.parts ≡ s.seat.words.house) (same_Some k x f) (ap (λ (q : PoolId). q.table) of_pool ∙ is.tied.housed h held);
   };
-  sound = λ x f. subst IsHeldPage (held_is k x f) sound;
+  sound = λ x f. subst IsHeldPage (same_Some k x f) sound;
   few = few;
 }
 
@@ -291,7 +282,7 @@ held_touched s h held touched = ap is_touched (sym held) ∙ touched
 
 some_hold : (o : Option Hold) (page : ℕ) → page_of_hold o ≡ Some page → (hold : Hold) × (o ≡ Some hold) × (hold.page ≡ page)
 some_hold None page e = absurd (let bad : None ≡ Some page = e in cc)
-some_hold (Some hold) page e = (hold, refl, page_is hold.page page e)
+some_hold (Some hold) page e = (hold, refl, same_Some hold.page page e)
 
 -- the guest's seat holds the page that the storage holds
 pub holds_page : (seat : Seated) (held : Option HeldState) (page : ℕ) → IsTied seat held → held_page held ≡ Some page → HoldsPage seat.view page
@@ -312,10 +303,7 @@ own_house words pool s b =
     ap (λ (w : WordsView). w.house) (sym there) ∙ words_housed words pool s.hosts s.pool b.can s.guest s.seat.words within
 
 pub own_words : (words : List WordsView) (pool : PoolId) (s : StorageState) (w : WordsView) → IsBoundTo words pool s → slice_get words s.guest ≡ Some w → s.seat.words ≡ w
-own_words words pool s w b there = words_is s.seat.words w (sym b.guest ∙ there)
-  where
-    words_is : (x y : WordsView) → Some x ≡ Some y → x ≡ y
-    words_is x y e = cc
+own_words words pool s w b there = same_Some s.seat.words w (sym b.guest ∙ there)
 
 pub raised_few : (answer : Result Unit Trap) (count after : ℕ) → count < 2 ^ 64 → after ≡ raised_at answer count → after < 2 ^ 64
 raised_few (Ok done) count after few e = omega (arith, few, e)

@@ -1,5 +1,6 @@
 -- From what a claim's step tells to what the claim answers.
 use Rattle.std.proofs.Common.{◌≡◌, ℕ, List, [], ◌∷◌, sym, refl, ap, ◌∙◌, subst, true, false, Option, Some, None}
+use Rattle.std.proofs.lemmas.Option.{same_Some}
 use Rattle.essa_state.specs.declared.fields.Fields.{Fields}
 use Rattle.essa_state.specs.StateWord.{number_of}
 use Rattle.essa_state.specs.Layout.{fields_at}
@@ -44,13 +45,10 @@ module _ {D : Type 0} (body : D → Body) (house_of : D → TableId) where
   unfolding hand_or
   first_of_hand page xs ys x y e = ap (hand_or x) e
 
-  same_body : (x y : D) → Some x ≡ Some y → x ≡ y
-  same_body x y e = cc
-
   pub claimed_by : (page : ℕ) (word : Fields) (m m' m'' : M) (x : Option D) (b : D) → m.1 ≡ [] → word.busy ≡ false → Got body house_of page word m m'
       → m'.1 ≡ (page, x) ∷ rest m'.1 → x ≡ Some b → m'' ≡ (m'.0, (page, None) ∷ rest m'.1) → IsClaimed body house_of page m word b m''
   claimed_by page word m m' m'' x b idle free g held is after =
-      let same : g.there ≡ b = same_body g.there b (first_of_hand page m.1 (rest m'.1) (Some g.there) x (sym g.hand ∙ held) ∙ is) in
+      let same : g.there ≡ b = same_Some g.there b (first_of_hand page m.1 (rest m'.1) (Some g.there) x (sym g.hand ∙ held) ∙ is) in
       record {
         free = free;
         fits = subst (λ q. FitsWord word (body q)) same g.fits;
@@ -67,7 +65,7 @@ module _ {D : Type 0} (body : D → Body) (house_of : D → TableId) where
       → m' ≡ (released_view v page (actual word (body b)) note, [])
   released_by page raw note m m' v b word at written r =
       let same_word : r.word ≡ word = same_fields r.word word raw r.written written in
-      let same_there : r.there ≡ b = same_body r.there b (first_of_hand page [] [] (Some r.there) (Some b) (sym r.hand ∙ ap (λ q. q.1) at)) in
+      let same_there : r.there ≡ b = same_Some r.there b (first_of_hand page [] [] (Some r.there) (Some b) (sym r.hand ∙ ap (λ q. q.1) at)) in
       let view : m'.0 ≡ released_view v page (actual word (body b)) note =
       r.view ∙ ap (λ q. released_view q page (actual r.word (body r.there)) note) (ap (λ q. q.0) at)
       ∙ ap (λ q. released_view v page (actual q (body r.there)) note) same_word ∙ ap (λ q. released_view v page (actual word (body q)) note) same_there in

@@ -1,6 +1,7 @@
 -- A claim keeps the rule, whatever the state is in which it comes.
 use Rattle.std.proofs.Common.{◌≡◌, ◌≢◌, ℕ, ◌<◌, List, length, set, sym, refl, ap, ◌∙◌, subst, arith, true, false, Option, Some, None, length-set, get_or-set_other, get_or-set_same, slice_index}
 use Rattle.std.specs.Prelude.{bit_or}
+use Rattle.std.proofs.lemmas.Option.{same_Some}
 use mathlib.Core.Option.{none, some, some-injective}
 use lib.ListN.{get_elem?}
 use lib.Seq.{set-get_or}
@@ -17,9 +18,6 @@ use Rattle.state_words.specs.Steps.{role_with, IsExpected, claimed_view, tried_v
 use Rattle.state_words.specs.Plays.{Got, claims}
 use Rattle.state_words.proofs.Busy.{or-free, or-busied}
 use Rattle.state_words.proofs.Kept.{put, put_here, Change, set_there, page_step, same_step}
-
-pub same_hold : (a b : Hold) → Some a ≡ Some b → a ≡ b
-same_hold a b e = cc
 
 pub guest_values : (vs ws : List PageValue) → Guest vs ≡ Guest ws → vs ≡ ws
 guest_values vs ws e = cc
@@ -96,8 +94,8 @@ module _ {D : Type 0} (body : D → Body) (house_of : D → TableId) (house : Ta
       let fits : ViewFits house s'.words values' r.guest (put r.by page (Some id)) id w = record {
         guests = λ vs e. ((mine vs e).0, (mine vs e).1);
         housed = λ e. (r.seats id me.0 at).housed (spent e);
-        holds = λ g e. subst (λ (q : Hold). (put r.by page (Some id) q.page ≡ Some id) × HoldFits s'.words values' q) (same_hold hold g e) (put_here r.by page (Some id), kept);
-        own = λ g vs e i. subst (λ (q : Hold). value_at values' q.page ≡ found_value q) (same_hold hold g e) (mine vs i).2;
+        holds = λ g e. subst (λ (q : Hold). (put r.by page (Some id) q.page ≡ Some id) × HoldFits s'.words values' q) (same_Some hold g e) (put_here r.by page (Some id), kept);
+        own = λ g vs e i. subst (λ (q : Hold). value_at values' q.page ≡ found_value q) (same_Some hold g e) (mine vs i).2;
       } in
       let got : Got body house_of page word me (w, carried_after me.1 a) = record {
         there = h.there;

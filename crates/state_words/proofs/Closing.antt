@@ -5,6 +5,7 @@ use Rattle.std.specs.Prelude.{slice_set}
 use Rattle.std.specs.Mem.Slots.Ownership.{Filled}
 use Rattle.std.proofs.lemmas.Grind.{common_steps}
 use Rattle.std.proofs.lemmas.List.Sums.{count_by_more_yes, count_by_more_no}
+use Rattle.std.proofs.lemmas.Option.{same_Some}
 use mathlib.Core.Logic.{dite}
 use native.Mathlib.Decide.{ℕ_discrete}
 use mathlib.Core.Option.{some, some-injective}
@@ -87,6 +88,3 @@ module _ (words : List ℕ) (page raw busy busy' : ℕ) (there : get_elem? words
 
 pub not_none : {D : Type 0} (slots slots' : List (Option D)) (page : ℕ) (b : D) (x : Option D) → get_elem? slots page ≡ some (Some b) → slots' ≡ slots → get_elem? slots' page ≡ some x → x ≡ Some b
 not_none slots slots' page b x there same found = some-injective x (Some b) (sym found ∙ ap (λ q. get_elem? q page) same ∙ there)
-
-pub same_body : {D : Type 0} (x y : D) → Some x ≡ Some y → x ≡ y
-same_body x y e = cc

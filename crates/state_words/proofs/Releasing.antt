@@ -1,5 +1,6 @@
 -- A release keeps the rule.
 use Rattle.std.proofs.Common.{◌≡◌, ◌≢◌, ℕ, ◌<◌, List, [], ◌∷◌, length, set, sym, refl, ap, ◌∙◌, subst, arith, true, false, Option, Some, None, length-set, get_or-set_other, get_or-set_same}
+use Rattle.std.proofs.lemmas.Option.{same_Some}
 use mathlib.Core.Option.{none, some, some-injective}
 use lib.ListN.{get_elem?}
 use Rattle.cmm_types.specs.declared.page.Move.{Move}
@@ -18,7 +19,7 @@ use Rattle.state_words.specs.Laws.AccessLaws.{Leads-busy, Leads-fits}
 use Rattle.state_words.specs.Steps.{role_with, released_view, IsAllowedOn, IsMovedBody, word_after, moved_value}
 use Rattle.state_words.specs.Plays.{Releases, leaves, moves}
 use Rattle.state_words.proofs.Kept.{put, Change, set_there, page_step}
-use Rattle.state_words.proofs.Claiming.{same_hold, guest_values}
+use Rattle.state_words.proofs.Claiming.{guest_values}
 use Rattle.state_words.proofs.Moving.{after-free, after-may}
 
 module _ {D : Type 0} (body : D → Body) (house_of : D → TableId) (house : TableId) where
@@ -83,7 +84,7 @@ module _ {D : Type 0} (body : D → Body) (house_of : D → TableId) (house : Ta
         tt,
         page_step body house_of house s s' r values' page id v w None change refl at
             (λ j e. let both : Some j ≡ Some id = sym e ∙ by_me in cc)
-            (λ i o has. absurd (o (sym has.of_page ∙ ap (λ q. q.page) (same_hold has.hold h (sym has.held ∙ held)) ∙ of_page)))
+            (λ i o has. absurd (o (sym has.of_page ∙ ap (λ q. q.page) (same_Some has.hold h (sym has.held ∙ held)) ∙ of_page)))
             guests guest_there home fit,
         record { word = word; there = b; written = refl; hand = refl; view = refl; empty = refl },
       )

@@ -1,5 +1,6 @@
 -- Which seat holds a page, by the rule.
 use Rattle.std.proofs.Common.{◌≡◌, ℕ, ◌<◌, List, length, sym, ap, ◌∙◌, true, false, Option, Some, None, slice_index}
+use Rattle.std.proofs.lemmas.Option.{same_Some}
 use mathlib.Core.Option.{some}
 use lib.ListN.{get_elem?}
 use Rattle.essa_state.specs.Laws.LayoutLaws.{fields_at-number}
@@ -24,14 +25,11 @@ module _ {D : Type 0} (body : D → Body) (house_of : D → TableId) (house : Ta
       let f = ((r.seats seat h.view h.there).holds h.hold h.held).1 in
       ap (λ q. q.busy) (fields_at-number (slice_index s.words page) (busied h.hold.word) (ap (slice_index s.words) (sym h.of_page) ∙ f.written))
 
-  same_seat : (i j : ℕ) → Some i ≡ Some j → i ≡ j
-  same_seat i j e = cc
-
   pub one_holder : (s : State (Option D) SeatView) (page i j : ℕ) → WordsRule body house_of house s → SeatHolds s.views i page → SeatHolds s.views j page → i ≡ j
   one_holder s page i j r h k =
       let by_i : r.by page ≡ Some i = ap r.by (sym h.of_page) ∙ ((r.seats i h.view h.there).holds h.hold h.held).0 in
       let by_j : r.by page ≡ Some j = ap r.by (sym k.of_page) ∙ ((r.seats j k.view k.there).holds k.hold k.held).0 in
-      same_seat i j (sym by_i ∙ by_j)
+      same_Some i j (sym by_i ∙ by_j)
 
   pub one_guest : (s : State (Option D) SeatView) (i j : ℕ) (v w : SeatView) (vs ws : List PageValue) → WordsRule body house_of house s → get_elem? s.views i ≡ some v → v.role ≡ Guest vs
       → get_elem? s.views j ≡ some w → w.role ≡ Guest ws → i ≡ j

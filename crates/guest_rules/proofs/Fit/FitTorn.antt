@@ -1,6 +1,7 @@
 -- Every turn of an unmap that takes its pages off keeps fit.
 use Rattle.std.proofs.Common.{◌≡◌, ◌<◌, ℕ, false, Option, Some, None, refl, ap, sym, ◌∙◌, subst, arith}
 use Rattle.std.proofs.lemmas.Bool.{eq-eqb}
+use Rattle.std.proofs.lemmas.Option.{same_Some}
 use Rattle.cmm_types.specs.declared.page.Tag.{Tag}
 use Rattle.cmm_types.specs.declared.page.Tag.TheVariants.{Anon}
 use Rattle.cmm_types.specs.declared.turn.Turn.{Turn}
@@ -75,22 +76,16 @@ file_untagged state g v d slot index k f below = (no_page (page_of g.parts.cache
     no_slot None e = e
     no_slot (Some number) e = absurd (never (f.tags.swapped number (Anon slot index) (swap_slot-is g.parts.cache slot index number e).1).1)
 
-same_slot : {a b : Slot} → Some a ≡ Some b → a ≡ b
-same_slot e = cc
-
-tag_exact : {a b : Tag} → Some a ≡ Some b → a ≡ b
-tag_exact e = cc
-
 -- also with other tables, in which the mapping is the same
 abbrev pub still_file : (g : GuestState) (slot : ℕ) (after : Parts) → slot_at after.maps slot ≡ slot_at g.parts.maps slot → TearsFile g slot → TearsFile (with_parts g after) slot
 still_file g slot after same k = record { mapping = k.mapping; at = same ∙ k.at; file = k.file; first = k.first; writable = k.writable; shown = k.shown }
 
 -- the page that the unmap is at is one of the mapping
 pub tearing-within : (g : GuestState) (cpu slot index : ℕ) (mapping : Slot) → IsTearing g cpu slot index → slot_at g.parts.maps slot ≡ Some mapping → index < mapping.count
-tearing-within g cpu slot index mapping k at = subst (λ (m : Slot). index < m.count) (same_slot (sym k.at ∙ at)) k.within
+tearing-within g cpu slot index mapping k at = subst (λ (m : Slot). index < m.count) (same_Some _ _ (sym k.at ∙ at)) k.within
 
 pub torn_mapping : (g : GuestState) (cpu slot index : ℕ) (its : TearsOwn g slot) → IsTearing g cpu slot index → its.mapping.live ≡ false
-torn_mapping g cpu slot index its k = ap (λ (m : Slot). m.live) (same_slot (sym its.at ∙ k.at)) ∙ k.torn
+torn_mapping g cpu slot index its k = ap (λ (m : Slot). m.live) (same_Some _ _ (sym its.at ∙ k.at)) ∙ k.torn
 
 pub Fit-torn : (g : GuestState) (v : StorageView) (d : DiskView) (h : GuestState) (w : StorageView) (e : DiskView) (cpu slot index : ℕ) (t : Turn) → Fit g v d → TearsFile g slot
     → TearCase g cpu slot index v d h t w e → Fit h w e
@@ -127,7 +122,7 @@ no_entry state g v d slot index k f below none = of (entry_at g.parts.maps slot 
     of (Some pte) e =
         let is = f.entries.entry slot index pte (omega (arith, below, (f.slots.shown slot k.mapping k.at).0)) e in
         let both : Some is.tag ≡ Some (tag_of k.mapping.shown slot index) = sym is.mapped ∙ tag_at-place g.parts.maps slot index k.mapping k.at below in
-        let its : is.tag ≡ Anon slot index = tag_exact both ∙ ap (λ (s : Shown). tag_of s slot index) k.shown in
+        let its : is.tag ≡ Anon slot index = same_Some _ _ both ∙ ap (λ (s : Shown). tag_of s slot index) k.shown in
         let bad : None ≡ Some pte.page = sym none ∙ ap (page_of g.parts.cache) (sym its) ∙ (f.pages.indexed pte.page is.tag is.tagged).1 in
         absurd cc
 

@@ -1,6 +1,7 @@
 -- Fit after an unmap was answered: its mapping isn't found any more, and is torn down from here on.
 use Rattle.std.proofs.Common.{◌≡◌, ◌≢◌, ◌<◌, ◌*◌, ◌++◌, if◌then◌else◌, ℕ, Bool, true, false, [], ◌∷◌, set, length, Option, Some, None, refl, ap, sym, ◌∙◌, inl, inr, subst}
 use Rattle.std.proofs.lemmas.Bool.{cases_eq}
+use Rattle.std.proofs.lemmas.Option.{same_Some}
 use Rattle.cmm_types.specs.declared.command.Op.{Op}
 use Rattle.cmm_types.specs.declared.command.Op.TheVariants.{Unmap}
 use Rattle.cmm_types.specs.declared.command.Reply.{Reply}
@@ -68,9 +69,6 @@ can_tear g v d cpu number slot f starts found =
       some = f.slots.some slot its.mapping its.at;
       unpinned = λ index lt. pinned_at-none g.parts.maps slot index (rw f.slots.slots f.slots.pinned) (slot-below g.parts.maps slot its.mapping its.at) lt none;
     }
-
-same_slot : {a b : Slot} → Some a ≡ Some b → a ≡ b
-same_slot e = cc
 
 -- how many pages of its own the flat machine's mapping has
 ended_pages : (state : FlatState) (parts : Parts) (process number slot : ℕ) (k : FlatMapped state parts process number slot)
@@ -184,7 +182,7 @@ Fit-unmapped g v d cpu number slot f starts found =
     pages_now : own_pages (slot_at now slot) ≡ pages_ended flat process op Done
     pages_now =
         ap own_pages torn_now
-        ∙ ap (λ (m : Slot). own_pages (Some m)) (same_slot (sym tears.at ∙ mapped.found.at))
+        ∙ ap (λ (m : Slot). own_pages (Some m)) (same_Some _ _ (sym tears.at ∙ mapped.found.at))
         ∙ sym (ended_pages flat g.parts process number slot mapped)
 
     ended : EndsAs g h cpu op Done
@@ -197,6 +195,6 @@ Fit-unmapped g v d cpu number slot f starts found =
           let before : (processor_at g q).phase ≡ Teardown s i = ap (λ (p : Processor). p.phase) (sym (one.others q n)) ∙ e in
           let was = f.teardowns.tearing q s i before in
           let other : s ≢ slot = λ z. (let two : Some was.mapping ≡ Some tears.mapping = sym was.at ∙ ap (slot_at g.parts.maps) z ∙ tears.at in
-          let bad : false ≡ true = sym was.torn ∙ ap (λ (m : Slot). m.live) (same_slot two) ∙ tears.live in cc) in
+          let bad : false ≡ true = sym was.torn ∙ ap (λ (m : Slot). m.live) (same_Some _ _ two) ∙ tears.live in cc) in
           inl (n, i, before, ap own_pages (elsewhere s other))
     ]

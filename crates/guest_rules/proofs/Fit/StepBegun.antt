@@ -1,5 +1,6 @@
 -- Fit after a free page got the tag that a command wants.
 use Rattle.std.proofs.Common.{◌≡◌, ◌≢◌, ◌⊎◌, ◌<◌, ◌≤◌, ℕ, Bool, true, false, List, ◌∷◌, drop, length, Some, None, inl, inr, refl, ap, sym, ◌∙◌, subst, position, arith}
+use Rattle.std.proofs.lemmas.Option.{same_Some}
 use Rattle.cmm_types.specs.declared.page.Usage.TheVariants.{S, U, V}
 use Rattle.cmm_types.specs.declared.page.Tag.{Tag}
 use Rattle.cmm_types.specs.declared.page.Tag.TheVariants.{Anon}
@@ -124,9 +125,6 @@ Fit-begun state g v d w e cpu op tag page rest found f starts wants none top bac
     unchanged : found.changed ≡ false
     unchanged = may-unchanged (v.values page) found may (f.hints.unused page below was_unused)
 
-    some_exact : {a b : Tag} → Some a ≡ Some b → a ≡ b
-    some_exact e = cc
-
     -- a page of a mapping that is torn down has a place in the index, and isn't wanted
     torn_tag : (s i : ℕ) (mapping : Slot) → slot_at g.parts.maps s ≡ Some mapping → i < mapping.count → IsTag g.parts.cache (Anon s i)
     torn_tag s i mapping at within = own-is_tag state g v d f.sizes f.slots s i mapping at within
@@ -152,7 +150,7 @@ Fit-begun state g v d w e cpu op tag page rest found f starts wants none top bac
       torn = keeps_torn-same g.parts.maps g.parts.maps refl;
       untagged = λ s i mapping at torn within was. (index.others (Anon s i) (torn_tag s i mapping at within) (apart s i mapping at torn) ∙ was.0, swap_kept s i ∙ was.1);
       mappings = refl;
-      used = λ t e. subst (IsUsedTag g.parts.maps) (some_exact e) (flat-used g.parts tag wanted.flat);
+      used = λ t e. subst (IsUsedTag g.parts.maps) (same_Some _ _ e) (flat-used g.parts tag wanted.flat);
       pins = PinsFit-begun state g.parts h.parts page tag (begun_info tag cpu) f.pins f.pages f.slots f.sizes.slots bare none refl refl change index (record { slots = refl; pinned = refl });
       fits = rw value (PageFits-begun g d cpu tag found unchanged unused (MayBecome-is_value (v.values page) found (f.hints.values page below) may));
     }

@@ -1,5 +1,6 @@
 -- Fit after a page was locked by a processor to be written back, or unlocked again.
 use Rattle.std.proofs.Common.{◌≡◌, ◌<◌, ℕ, Bool, true, false, List, length, Some, None, refl, ap, sym, ◌∙◌, inl, inr, subst, arith}
+use Rattle.std.proofs.lemmas.Option.{same_Some}
 use Rattle.cmm_types.specs.declared.page.Usage.{Usage}
 use Rattle.cmm_types.specs.declared.page.Usage.TheVariants.{S}
 use Rattle.cmm_types.specs.declared.page.Tag.{Tag}
@@ -267,9 +268,6 @@ Fit-released state g v d w e cpu page tag middle after dirty f k back r told cle
         (record { clean = λ u. let bad : true ≡ false = sym uptodate ∙ u in absurd cc; stale = λ t e none. uptodate })
         (blocks-kept g.parts.cache last.cache ((only-changed middle page changed).cache ∙ r.only.cache))
 
-tag_exact : {a b : Tag} → Some a ≡ Some b → a ≡ b
-tag_exact e = cc
-
 -- a page was written to its block
 pub Fit-written_back : (state : FlatState) (g : GuestState) (v : StorageView) (d : DiskView) (w : StorageView) (e : DiskView) (cpu page : ℕ) (tag : Tag) (bytes : List ℕ) (after : Parts)
     → FitAt state g v d → HoldsPage g cpu page tag
@@ -291,7 +289,7 @@ Fit-written_back state g v d w e cpu page tag bytes after f k are wrote told =
     told (λ clean unchanged. are ∙ ap (λ b. Bytes b) (sym (backing-written state g v d e page tag wrote.block bytes f writes)))
   where
     block_of : {t : Tag} → (info_at g.parts.pages page).tag ≡ Some t → backing_of g.parts.cache t ≡ Some wrote.block
-    block_of e = let both : Some _ ≡ Some tag = sym e ∙ k.shows.tagged in ap (backing_of g.parts.cache) (tag_exact both) ∙ wrote.backs
+    block_of e = let both : Some _ ≡ Some tag = sym e ∙ k.shows.tagged in ap (backing_of g.parts.cache) (same_Some _ _ both) ∙ wrote.backs
 
     writes : WritesBytes g v d e page tag wrote.block bytes
     writes = record { tagged = k.shows.tagged; uptodate = k.shows.uptodate; are = are; backs = wrote.backs; count = wrote.count; blocks = wrote.blocks }

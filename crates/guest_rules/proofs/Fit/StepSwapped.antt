@@ -2,6 +2,7 @@
 use Rattle.std.proofs.Common.{◌≡◌, ◌≢◌, ◌⊎◌, ◌<◌, ℕ, Bool, true, false, List, length, Option, Some, None, is_none, refl, ap, sym, ◌∙◌, inl, inr, subst, length-set}
 use Rattle.std.proofs.lemmas.Bool.{cases_eq}
 use Rattle.std.proofs.lemmas.List.Quantifiers.{position-Some}
+use Rattle.std.proofs.lemmas.Option.{same_Some}
 use Rattle.cmm_types.specs.declared.page.Tag.{Tag}
 use Rattle.cmm_types.specs.declared.page.Tag.TheVariants.{File, Anon}
 use Rattle.cmm_io.specs.DiskView.{DiskView}
@@ -160,12 +161,6 @@ FitAt-swapped state g v d cache f step = record {
 
 -- ---- a dirty page gets a swap slot
 
-some_exact : {a b : Tag} → Some a ≡ Some b → a ≡ b
-some_exact e = cc
-
-page_exact : (a b : ℕ) → Some a ≡ Some b → a ≡ b
-page_exact a b e = cc
-
 no_tag : (o : Option Tag) → is_none o ≡ true → o ≡ None
 no_tag None e = refl
 no_tag (Some tag) e = let bad : false ≡ true = e in absurd cc
@@ -211,7 +206,7 @@ module _ (state : FlatState) (g : GuestState) (v : StorageView) (d : DiskView) w
       swapped = λ other t e. elim (cases_eq other number) [
         | inl z ↦
             let both : Some tag ≡ Some t = sym (swap-here old new number (Some tag) change) ∙ ap (swap_tag new) (sym z) ∙ e in
-            subst (λ x. IsAnonymous x × IsUsedTag g.parts.maps x) (some_exact both) (tt, f.tags.pages page tag k.tagged)
+            subst (λ x. IsAnonymous x × IsUsedTag g.parts.maps x) (same_Some _ _ both) (tt, f.tags.pages page tag k.tagged)
         | inr n ↦ f.tags.swapped other t (sym (swap-others old new number (Some tag) change other n) ∙ e)
       ];
       distinct = distinct-assigned old new number tag change f.tags.distinct (λ other e. swap_slot-nowhere old slot index other none e);
@@ -237,11 +232,11 @@ module _ (state : FlatState) (g : GuestState) (v : StorageView) (d : DiskView) w
       change = record { below = is_free.0; files = refl; slots = refl; index = refl; swap = refl }
 
       its_page : (p : ℕ) (t : Tag) → (info_at g.parts.pages p).tag ≡ Some t → t ≡ tag → p ≡ page
-      its_page p t e z = page_exact p page (sym (f.pages.indexed p t e).1 ∙ ap (page_of old) z ∙ (f.pages.indexed page tag k.tagged).1)
+      its_page p t e z = same_Some p page (sym (f.pages.indexed p t e).1 ∙ ap (page_of old) z ∙ (f.pages.indexed page tag k.tagged).1)
 
       others : (t : Tag) → t ≢ tag → swap_slot new t ≡ swap_slot old t
       others t n =
-          swap_slot-other old new number (Some tag) t change (λ e. let bad : None ≡ Some t = sym (no_tag (swap_tag old number) is_free.1) ∙ e in cc) (λ e. n (sym (some_exact e)))
+          swap_slot-other old new number (Some tag) t change (λ e. let bad : None ≡ Some t = sym (no_tag (swap_tag old number) is_free.1) ∙ e in cc) (λ e. n (sym (same_Some _ _ e)))
 
       below : page < v.pages
       below = rw (infos-pages g v d f.sizes) at (tagged-below g.parts.pages page tag k.tagged)
@@ -317,7 +312,7 @@ module _ (state : FlatState) (g : GuestState) (v : StorageView) (d : DiskView) w
       change = record { below = (swap_slot-is old slot index number has).0; files = refl; slots = refl; index = refl; swap = refl }
 
       others : (t : Tag) → t ≢ tag → swap_slot new t ≡ swap_slot old t
-      others t n = swap_slot-other old new number None t change (λ e. n (some_exact (sym e ∙ its))) (λ e. let bad : None ≡ Some t = e in cc)
+      others t n = swap_slot-other old new number None t change (λ e. n (same_Some _ _ (sym e ∙ its))) (λ e. let bad : None ≡ Some t = e in cc)
 
   -- the swap slot of a page that was taken off its mapping is free
   pub FitAt-released : (slot index : ℕ) (mapping : Slot) → FitAt state g v d → slot_at g.parts.maps slot ≡ Some mapping → mapping.live ≡ false → page_of g.parts.cache (Anon slot index) ≡ None

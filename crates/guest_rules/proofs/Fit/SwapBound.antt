@@ -7,6 +7,7 @@ use Rattle.std.specs.FinMap.{get}
 use Rattle.std.specs.List.{sum_by}
 use Rattle.std.proofs.lemmas.List.Sums.{count_by-le-length}
 use Rattle.std.proofs.lemmas.Bool.Decides.{nat_tests}
+use Rattle.std.proofs.lemmas.Option.{same_Some}
 use Rattle.cmm_types.specs.declared.command.TheConstants.{MAX_MAPPING_PAGES}
 use Rattle.cmm_types.specs.declared.page.Tag.{Tag}
 use Rattle.cmm_types.specs.declared.page.Tag.TheVariants.{File, Anon}
@@ -326,15 +327,12 @@ live_rows state g f =
     (λ slot below some. mapping_of slot (slot_at g.parts.maps slot) refl some)
     (λ slot other a b some more same. apart slot other (slot_at g.parts.maps slot) (slot_at g.parts.maps other) refl refl some more same)
   where
-    slot_exact : (a b : Slot) → Some a ≡ Some b → a ≡ b
-    slot_exact a b e = cc
-
     mapping_of : (slot : ℕ) (o : Option Slot) → slot_at g.parts.maps slot ≡ o → live_own o ≢ 0 → (x : Mapping) × (get state.mappings (slot_key o) ≡ Some x) × (live_own o ≤ anonymous_pages x)
     mapping_of slot None at some = absurd (some refl)
     mapping_of slot (Some mapping) at some =
         let live = is_live_own mapping some in
         let k = flat_mapped state g.parts mapping.process mapping.map slot f (finds state g.parts slot mapping f at live) in
-        let same : k.found.mapping ≡ mapping = slot_exact k.found.mapping mapping (sym k.found.at ∙ at) in
+        let same : k.found.mapping ≡ mapping = same_Some k.found.mapping mapping (sym k.found.at ∙ at) in
         (k.its, k.there, at_most (live_is mapping live ∙ ap (λ (m : Slot). own_pages (Some m)) (sym same) ∙ sym (mapped-pages state g.parts mapping.process mapping.map slot k)))
 
     apart : (slot other : ℕ) (o p : Option Slot) → slot_at g.parts.maps slot ≡ o → slot_at g.parts.maps other ≡ p → live_own o ≢ 0 → live_own p ≢ 0 → slot_key o ≡ slot_key p → slot ≡ other

@@ -3,6 +3,7 @@ use Rattle.std.proofs.Common.{◌≡◌, ◌≢◌, ◌⊎◌, ◌<◌, ℕ, Lis
 use Rattle.std.proofs.lemmas.Bool.{cases_eq}
 use Rattle.std.proofs.lemmas.List.Sums.{sum_by-set}
 use Rattle.std.specs.List.{sum_by}
+use Rattle.std.proofs.lemmas.Option.{same_Some}
 use Rattle.cmm_types.specs.declared.page.Tag.{Tag}
 use Rattle.cmm_types.specs.declared.page.Tag.TheVariants.{File, Anon}
 use Rattle.guest_pages.specs.declared.info.PageInfo.{PageInfo}
@@ -92,16 +93,13 @@ teardown_of (AtSync index) = None
 teardown_of (SyncWrite index page) = None
 teardown_of (Teardown slot index) = Some (slot, index)
 
-some_pair : {a b : ℕ × ℕ} → Some a ≡ Some b → a ≡ b
-some_pair e = cc
-
 pub teardown-is : (phase : Phase) (slot index : ℕ) → teardown_of phase ≡ Some (slot, index) → phase ≡ Teardown slot index
 teardown-is Start slot index e = absurd (cc e)
 teardown-is (Fill page) slot index e = absurd (cc e)
 teardown-is (AtRoom page) slot index e = absurd (cc e)
 teardown-is (AtSync at) slot index e = absurd (cc e)
 teardown-is (SyncWrite at page) slot index e = absurd (cc e)
-teardown-is (Teardown s i) slot index e = let both = some_pair e in λ k. Teardown (both k).0 (both k).1
+teardown-is (Teardown s i) slot index e = let both = same_Some _ _ e in λ k. Teardown (both k).0 (both k).1
 
 -- two phases that tear the same down
 pub same-teardown : (a b : Phase) (slot index : ℕ) → teardown_of a ≡ teardown_of b → a ≡ Teardown slot index → b ≡ Teardown slot index

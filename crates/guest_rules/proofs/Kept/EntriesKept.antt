@@ -2,6 +2,7 @@
 -- a mapping ends, and where its slot is free again.
 use Rattle.std.proofs.Common.{◌≡◌, ◌≢◌, ◌<◌, ◌+◌, ◌-◌, ◌*◌, ℕ, Bool, true, false, length, slice_index_or, count_by, Option, Some, None, refl, ap, sym, ◌∙◌, inl, inr, subst, arith}
 use Rattle.std.proofs.lemmas.Bool.{cases_eq}
+use Rattle.std.proofs.lemmas.Option.{same_Some}
 use Rattle.cmm_types.specs.declared.page.Tag.{Tag}
 use Rattle.cmm_types.specs.declared.command.TheConstants.{MAX_MAPPING_PAGES}
 use Rattle.cmm_types.specs.declared.plan.TheConstants.{MAX_MAPPING_SLOTS}
@@ -112,7 +113,7 @@ EntriesFit-mapped old new slot index page writes tag f k change maps = record {
     | inl z ↦ elim (cases_eq i index) [
       | inl y ↦
           let is : Some one ≡ Some pte = sym (entry_at-set old.maps slot index (Some one) below) ∙ ap (λ m. entry_at m slot index) (sym maps) ∙ (λ p. entry_at new.maps (sym z p) (sym y p)) ∙ e in
-          subst (λ q. IsEntry new s i q) (some_exact is) (rw (z, y) mine)
+          subst (λ q. IsEntry new s i q) (same_Some _ _ is) (rw (z, y) mine)
       | inr m ↦ left s i pte lt (λ q. m (entry_place_exact s slot i index lt k.index_below q).1) e
     ]
     | inr m ↦ left s i pte lt (λ q. m (entry_place_exact s slot i index lt k.index_below q).0) e
@@ -125,9 +126,6 @@ EntriesFit-mapped old new slot index page writes tag f k change maps = record {
   where
     one : Pte
     one = record { page = page; writable = writes }
-
-    some_exact : {a b : Pte} → Some a ≡ Some b → a ≡ b
-    some_exact e = cc
 
     below : place_at slot index < length old.maps.entries
     below = rw k.size (omega (arith, k.slot_below, k.index_below))

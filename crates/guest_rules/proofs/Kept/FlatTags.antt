@@ -2,6 +2,7 @@
 use Rattle.std.proofs.Common.{◌≡◌, ◌<◌, ◌-◌, ◌*◌, ℕ, Bool, true, false, List, length, take, Option, Some, None, slice_index_or, refl, ap, sym, ◌∙◌, subst, arith}
 use Rattle.std.specs.FinMap as finite
 use Rattle.std.proofs.lemmas.List.{take-replicate, drop-replicate}
+use Rattle.std.proofs.lemmas.Option.{same_Some}
 use Rattle.cmm_types.specs.declared.page.TheConstants.{PAGE}
 use Rattle.cmm_types.specs.declared.page.Tag.{Tag}
 use Rattle.cmm_types.specs.declared.page.Tag.TheVariants.{File, Anon}
@@ -73,9 +74,6 @@ flat_tag-is state g v d sizes slots (Anon slot index) is =
 
 -- ---- the flat machine's mapping
 
-mapping_exact : {a b : Mapping} → Some a ≡ Some b → a ≡ b
-mapping_exact e = cc
-
 -- a live mapping is found by its process and number
 pub finds : (state : FlatState) (parts : Parts) (slot : ℕ) (mapping : Slot) → SlotsFit state parts → slot_at parts.maps slot ≡ Some mapping → mapping.live ≡ true
     → find_slot parts.maps mapping.process mapping.map ≡ Some slot
@@ -125,7 +123,7 @@ same_place state maps process number slot k = λ i. mapping_at state (k.process_
 pub mapped_file : (state : FlatState) (parts : Parts) (process number slot file first : ℕ) (writable : Bool) → (k : FlatMapped state parts process number slot)
     → k.found.mapping.shown ≡ OfFile file first writable → k.its ≡ record { shown = FlatFile file first writable; pins = pins_of parts.maps slot k.found.mapping.count }
 mapped_file state parts process number slot file first writable k shown =
-    mapping_exact (shape_file (Some k.its) file first writable (pins_of parts.maps slot k.found.mapping.count)
+    same_Some _ _ (shape_file (Some k.its) file first writable (pins_of parts.maps slot k.found.mapping.count)
     (k.shape ∙ ap (λ (s : Shown). let out : Option Mapping = Some (record { shown = flat_shown s; pins = pins_of parts.maps slot k.found.mapping.count }) in out) shown))
 
 pub mapped_own : (state : FlatState) (parts : Parts) (process number slot : ℕ) → (k : FlatMapped state parts process number slot) → k.found.mapping.shown ≡ OfItsOwn
@@ -133,7 +131,7 @@ pub mapped_own : (state : FlatState) (parts : Parts) (process number slot : ℕ)
 mapped_own state parts process number slot k shown =
     let own = shape_own (Some k.its) (pins_of parts.maps slot k.found.mapping.count)
     (k.shape ∙ ap (λ (s : Shown). let out : Option Mapping = Some (record { shown = flat_shown s; pins = pins_of parts.maps slot k.found.mapping.count }) in out) shown) in
-    (own.0, mapping_exact own.1)
+    (own.0, same_Some _ _ own.1)
 
 -- it has as many pages of its own
 pub mapped-pages : (state : FlatState) (parts : Parts) (process number slot : ℕ) (k : FlatMapped state parts process number slot) → anonymous_pages k.its ≡ own_pages (Some k.found.mapping)

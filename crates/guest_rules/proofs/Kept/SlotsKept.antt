@@ -6,6 +6,7 @@ use Rattle.std.specs.FinMap as finite
 use Rattle.std.proofs.lemmas.Bool.{cases_eq, cases_lt, false_from_ne_true, ltb-true}
 use Rattle.std.proofs.lemmas.Bool.Decides.{nat_tests}
 use Rattle.std.proofs.lemmas.List.{get_or_past}
+use Rattle.std.proofs.lemmas.Option.{same_Some}
 use Rattle.cmm_types.specs.declared.command.TheConstants.{MAX_MAPPING_PAGES}
 use Rattle.cmm_flat.specs.declared.mapping.MappingKey.{MappingKey}
 use Rattle.cmm_flat.specs.declared.mapping.Mapping.{Mapping}
@@ -205,10 +206,7 @@ SlotsFit-mapped state old new slot process number count shown flat f k shape is 
     here : (s : ℕ) (mapping : Slot) → s ≡ slot → slot_at now s ≡ Some mapping → one ≡ mapping
     here s mapping z e =
         let both : Some one ≡ Some mapping = sym (slot_at-with_mapping_same old.maps slot process number shown count below) ∙ ap (slot_at now) (sym z) ∙ e in
-        some_exact both
-      where
-        some_exact : {a b : Slot} → Some a ≡ Some b → a ≡ b
-        some_exact e = cc
+        same_Some _ _ both
 
     -- no other slot has the mapping's number
     taken : (s : ℕ) (m : Slot) → slot_at old.maps s ≡ Some m → m.live ≡ true → m.process ≡ process → m.map ≡ number → ⊥
@@ -336,9 +334,6 @@ SlotsFit-pinned state old new process number slot index pins its f k was change 
 
 -- ---- a mapping ends
 
-some_slot : {a b : Slot} → Some a ≡ Some b → a ≡ b
-some_slot e = cc
-
 -- nothing of another slot changes
 flat_other : (old new : MapsView) (slot : ℕ) (o : Option ℕ) → ((s : ℕ) → s ≢ slot → slot_at new s ≡ slot_at old s) → ((s index : ℕ) → pinned_at new s index ≡ pinned_at old s index)
     → ((s : ℕ) → o ≡ Some s → s ≢ slot) → flat_found new o ≡ flat_found old o
@@ -398,7 +393,7 @@ SlotsFit-torn state old slot process number f found = record {
     here : (s : ℕ) (mapping : Slot) → s ≡ slot → slot_at now s ≡ Some mapping → record k.mapping { live = false } ≡ mapping
     here s mapping z e =
         let both : Some (record k.mapping { live = false }) ≡ Some mapping = sym (slot_at-torn_slot_same old.maps slot below ∙ ap torn k.at) ∙ ap (slot_at now) (sym z) ∙ e in
-        some_slot both
+        same_Some _ _ both
 
     still : (s : ℕ) (mapping : Slot) → slot_at now s ≡ Some mapping → mapping.live ≡ true → s ≢ slot
     still s mapping e lives z = let bad : false ≡ true = ap (λ (m : Slot). m.live) (here s mapping z e) ∙ lives in cc

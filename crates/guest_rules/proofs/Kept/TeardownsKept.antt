@@ -2,6 +2,7 @@
 use Rattle.std.proofs.Common.{◌≡◌, ◌≢◌, ◌<◌, ◌≤◌, ◌+◌, ℕ, Bool, true, false, List, length, get_or, set, slice_index_or, Option}
 use Rattle.std.proofs.Common.{Some, None, refl, ap, sym, ◌∙◌, inl, inr, subst, arith, length-set, get_or-set_same, get_or-set_other}
 use Rattle.std.proofs.lemmas.Bool.{cases_eq}
+use Rattle.std.proofs.lemmas.Option.{same_Some}
 use Rattle.cmm_types.specs.declared.command.TheConstants.{MAX_MAPPING_PAGES}
 use Rattle.cmm_types.specs.declared.command.Op.TheVariants.{Sync, Unmap}
 use Rattle.cmm_types.specs.declared.command.Reply.TheVariants.{Done}
@@ -104,7 +105,7 @@ keeps_torn-new maps slot process number shown count below free = record {
   was = λ s m there not_live. elim (cases_eq s slot) [
     | inl z ↦
         let both : Some _ ≡ Some m = sym (slot_at-with_mapping_same maps slot process number shown count below) ∙ ap (slot_at now) (sym z) ∙ there in
-        let bad : true ≡ false = ap (λ (x : Slot). x.live) (some_exact both) ∙ not_live in absurd cc
+        let bad : true ≡ false = ap (λ (x : Slot). x.live) (same_Some _ _ both) ∙ not_live in absurd cc
     | inr n ↦ sym (slot_at-with_mapping_other maps slot s process number shown count n) ∙ there
   ];
   none = λ s i m there not_live lt e. ap (λ xs. slice_index_or xs (place_at s i) None) (entries-with_mapping maps slot process number shown count) ∙ e;
@@ -113,9 +114,6 @@ keeps_torn-new maps slot process number shown count below free = record {
   where
     now : MapsView
     now = with_slot_mapped maps slot process number shown count
-
-    some_exact : {a b : Slot} → Some a ≡ Some b → a ≡ b
-    some_exact e = cc
 
     taken : (s : ℕ) (m : Slot) → slot_at maps s ≡ Some m → s ≢ slot
     taken s m there z = let bad : None ≡ Some m = sym free ∙ ap (slot_at maps) (sym z) ∙ there in cc

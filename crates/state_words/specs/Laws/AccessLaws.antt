@@ -4,6 +4,7 @@ use Rattle.std.specs.Option.{ForSome}
 use Rattle.std.proofs.Common.{arith, ◌∙◌, sym, subst}
 use Rattle.std.proofs.Math.Logic.{∥∥₁_elim}
 use Rattle.std.proofs.Props.{props}
+use Rattle.std.proofs.lemmas.Option.{same_Some}
 use Rattle.cmm_types.specs.declared.page.Content.{Content}
 use Rattle.cmm_types.specs.declared.page.Content.TheVariants.{Resident, Preserved, Zero}
 use Rattle.essa_state.specs.declared.fields.Fields.{Fields}
@@ -64,7 +65,4 @@ Leads-fits w body x there fits l = ∥∥₁_elim l (hlevel props) (λ r. Reache
 
 -- what stands of the hold that a seat has stands of whatever it holds
 pub ForSome-held : (P : Hold → Type 0) (held : Option Hold) (h : Hold) → held ≡ Some h → P h → ForSome held P
-ForSome-held P held h is p x e = subst P (same_hold h x (sym is ∙ e)) p
-  where
-    same_hold : (a b : Hold) → Some a ≡ Some b → a ≡ b
-    same_hold a b same = cc
+ForSome-held P held h is p x e = subst P (same_Some h x (sym is ∙ e)) p

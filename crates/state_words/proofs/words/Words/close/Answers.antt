@@ -1,7 +1,8 @@
 use Rattle.std.proofs.Common.{rules, arith, ◌≡◌, ◌<◌, length, sym, ap, ◌∙◌, subst, Some, None}
+use Rattle.std.proofs.lemmas.Option.{same_Some}
 use Rattle.std.specs.Mem.Slots.{slots_filled, slots_len, slots_items}
 use lib.ListN.{get_elem?}
-use Rattle.state_words.proofs.Closing.{closed_word, closed_home, not_none, same_body, still_filled, now_empty, moved_none, moved_one, counted_busy, counted_free}
+use Rattle.state_words.proofs.Closing.{closed_word, closed_home, not_none, still_filled, now_empty, moved_none, moved_one, counted_busy, counted_free}
 use Rattle.state_words.proofs.words.Words.close.Goals.{then-held, else-held+in-Some}
 use Rattle.state_words.proofs.words.Words.close.Goals as goal
 
@@ -41,7 +42,7 @@ loop-page-preserved g c =
         | else-held+in-Some v ↦
             let h = closed_home g.B.Body.body g.B.Body.house _ _ _ _ _ c.loop-page.page c.word.result c.close_with-closed.ensures.values.2 there (sym c.is_busy-held.ensures ∙ v.if-held.false) in
             let found = not_none _ _ c.loop-page.page h.there c.take-slot.result h.home i.1 c.take-slot.ensures.value in
-            let same = same_body v.in-Some.body h.there (sym v.in-Some.is ∙ found) in
+            let same = same_Some v.in-Some.body h.there (sym v.in-Some.is ∙ found) in
             moved_one _ _ _ _ _ _ i.7 _ _ v.in-Some.body (search rules) (search rules) (ap g.B.Body.house same ∙ h.housed ∙ ap (λ w. w.house) c.self.view_is)
       ]),
       (elim c.if-held.branch [
