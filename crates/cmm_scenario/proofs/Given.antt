@@ -1,6 +1,6 @@
 -- What holds of each value that a step of reading gives.
 use Rattle.std.proofs.Common.{◌≡◌, zero, suc, Bool, true, false, List, ◌∷◌, Option, Some, None, Result, Ok, Err, refl, arith}
-use Rattle.std.specs.Prelude.{◌&&◌, if◌then◌else◌, All}
+use Rattle.std.specs.Prelude.{if◌then◌else◌, All}
 use Rattle.std.specs.Option.{ok_or}
 use Rattle.cmm_scenario.specs.Outcome.{◌>>=◌, checked}
 

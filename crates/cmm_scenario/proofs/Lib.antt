@@ -2,6 +2,7 @@ pub mod Digits
 pub mod SpelledWords
 pub mod SpelledEvents
 pub mod SpelledCommands
+pub mod DataOf
 pub mod Keys
 pub mod Trees
 pub mod Meanings

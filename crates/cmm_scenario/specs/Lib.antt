@@ -7,5 +7,6 @@ pub mod Paths
 pub mod Faults
 pub mod Tree
 pub mod Lent
+pub mod Borrowed
 pub mod Plans
 pub mod Scenario

@@ -1,8 +1,9 @@
 ghost use Rattle.std.specs.Prelude.{◌≡◌};
-ghost use Rattle.serde_json.specs.View.{view};
+ghost use Rattle.cmm_scenario.specs.Borrowed.{view};
 ghost use Rattle.cmm_scenario.specs.Faults.{Gives, here};
 ghost use Rattle.cmm_scenario.specs.Plans.{head_of, cpu_command_of, file_of, cpu_plan_of, guest_of};
 
+use crate::borrowed::as_str;
 use crate::commands::command;
 use crate::error::{ScenarioError, here};
 use crate::fault::Kind;
@@ -12,7 +13,7 @@ use cmm_types::{
     MAX_FILES, MAX_GUEST_PAGES, MAX_PROCESSES, MAX_TOTAL_BLOCKS, Op, PAGE,
 };
 use hex::FromHexError;
-use serde_json::Value;
+use json::Value;
 use std::alloc::Global;
 
 /// The bytes at the front of a file of so many pages, in hexadecimal digits.
@@ -27,8 +28,8 @@ impl Reader for Head {
     ghost reads = { λ head tree. here (head_of head.pages tree) };
 
     #[tactic(auto, unfolding(crate::specs::Plans::head_of))]
-    fn read(&self, alloc: Global, value: &Value) -> Result<Items<u8>, ScenarioError> {
-        let Some(digits) = value.as_str() else {
+    fn read(&self, alloc: Global, value: &Value<'_>) -> Result<Items<u8>, ScenarioError> {
+        let Some(digits) = as_str(value) else {
             return here(alloc, Err(Kind::Type_));
         };
         match hex::decode(alloc, digits.as_bytes()) {
@@ -51,7 +52,7 @@ impl Reader for File {
     ghost reads = { λ _ tree. file_of tree };
 
     #[tactic(auto, unfolding(crate::specs::Plans::file_of))]
-    fn read(&self, alloc: Global, value: &Value) -> Result<FilePlan, ScenarioError> {
+    fn read(&self, alloc: Global, value: &Value<'_>) -> Result<FilePlan, ScenarioError> {
         here(alloc, known_keys(value, &["pages", "head"]))?;
         let pages = member(alloc, value, "pages", &Number::new(1, MAX_FILE_PAGES))?;
         let head = member(alloc, value, "head", &Head { pages })?;
@@ -60,10 +61,10 @@ impl Reader for File {
 }
 
 #[tactic(auto, unfolding(crate::specs::Plans::cpu_command_of))]
-fn cpu_command_of(value: &Value) -> Result<Op, Kind>
+fn cpu_command_of(value: &Value<'_>) -> Result<Op, Kind>
     ensures { result ≡ cpu_command_of (view value.now) }
 {
-    let text = value.as_str().ok_or(Kind::Type_)?;
+    let text = as_str(value).ok_or(Kind::Type_)?;
     command(text.as_bytes())
 }
 
@@ -75,7 +76,7 @@ impl Reader for Command {
 
     ghost reads = { λ _ tree. here (cpu_command_of tree) };
 
-    fn read(&self, alloc: Global, value: &Value) -> Result<Op, ScenarioError> {
+    fn read(&self, alloc: Global, value: &Value<'_>) -> Result<Op, ScenarioError> {
         here(alloc, cpu_command_of(value))
     }
 }
@@ -89,7 +90,7 @@ impl Reader for Cpu {
     ghost reads = { λ _ tree. cpu_plan_of tree };
 
     #[tactic(auto, unfolding(crate::specs::Plans::cpu_plan_of))]
-    fn read(&self, alloc: Global, value: &Value) -> Result<CpuPlan, ScenarioError> {
+    fn read(&self, alloc: Global, value: &Value<'_>) -> Result<CpuPlan, ScenarioError> {
         here(alloc, known_keys(value, &["process", "commands"]))?;
         let process = member(alloc, value, "process", &Number::new(0, MAX_PROCESSES - 1))?;
         let list = ListOf::new(0, MAX_COMMANDS, Command);
@@ -114,7 +115,7 @@ impl Reader for Guest {
     ghost reads = { λ _ tree. guest_of tree };
 
     #[tactic(auto, unfolding(crate::specs::Plans::guest_of))]
-    fn read(&self, alloc: Global, value: &Value) -> Result<GuestPlan, ScenarioError> {
+    fn read(&self, alloc: Global, value: &Value<'_>) -> Result<GuestPlan, ScenarioError> {
         let keys = ["pages", "swap", "files", "disk_fail", "pager_fail", "cpus"];
         here(alloc, known_keys(value, &keys))?;
         let pages = member(alloc, value, "pages", &Number::new(1, MAX_GUEST_PAGES))?;

@@ -1,6 +1,7 @@
 //! Reads a scenario from JSON.
 #![tactic(auto)]
 
+mod borrowed;
 mod commands;
 mod error;
 mod events;

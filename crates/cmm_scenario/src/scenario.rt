@@ -1,11 +1,14 @@
-ghost use Rattle.std.specs.Prelude.{◌≡◌, ◌-◌, ◌≤◌, nat_le, IfOk};
+ghost use Rattle.std.specs.Prelude.{◌≡◌, ◌≢◌, ◌-◌, ◌≤◌, nat_le, Some, None, IfOk, IfErr};
 ghost use Rattle.std.specs.Option.{SomeIff};
-ghost use Rattle.serde_json.specs.View.{view};
 ghost use Rattle.cmm_types.specs.InRange.{ScenarioInRange, blocks_of, guest_pages_of, guest_blocks_of};
+ghost use Rattle.serde_json.specs.Read.{read};
+ghost use Rattle.json.specs.declared.error.Error.TheVariants.{OutOfMemory};
+ghost use Rattle.cmm_scenario.specs.Borrowed.{view, refusal};
 ghost use Rattle.cmm_scenario.specs.Faults.{Gives, here};
 ghost use Rattle.cmm_scenario.specs.Plans.{totals_of, guests_of, schedule_event_of, schedule_of, whole_plan_of};
-ghost use Rattle.cmm_scenario.specs.Scenario.{scenario_of};
+ghost use Rattle.cmm_scenario.specs.Scenario.{tree_of, scenario_of};
 
+use crate::borrowed::{as_str, numbers_fit};
 use crate::error::{ScenarioError, at_root, here, inside};
 use crate::events::event;
 use crate::fault::Kind;
@@ -15,8 +18,11 @@ use cmm_types::{
     Event, GuestPlan, Items, MAX_EVENTS, MAX_FRAMES, MAX_GUESTS, MAX_RECLAIMERS, MAX_TOTAL_BLOCKS,
     MAX_TOTAL_PAGES, Scenario,
 };
-use serde_json::{Category, Value};
+use json::{Error, Scratch, Value};
 use std::alloc::Global;
+
+/// How deep lists and objects may nest.
+const MAX_DEPTH: usize = 127;
 
 /// The scenario that a JSON text is, within all ranges and totals. A fault is the first of the walk: what is no
 /// object, then an unknown key, then the keys in their order, each with everything below it before the next.
@@ -25,19 +31,54 @@ pub fn read_scenario(alloc: Global, bytes: &[u8]) -> Result<Scenario, ScenarioEr
     ensures exact { Gives result (scenario_of bytes.now) }
     ensures in_range { IfOk result ScenarioInRange }
 {
-    match Value::from_slice(alloc, bytes) {
+    let mut scratch = Scratch::new(alloc);
+    match tree(alloc, bytes, &mut scratch) {
         Ok(tree) => at_root(alloc, plan(alloc, &tree)),
-        Err(e) => match e.classify() {
-            Category::Memory => Err(ScenarioError::NoMemory),
-            Category::Io | Category::Syntax | Category::Data | Category::Eof => {
-                Err(ScenarioError::NotJson)
-            }
-        },
+        Err(e) => Err(refusal(e)),
     }
 }
 
+fn refusal(e: Error) -> ScenarioError
+    ensures { result ≡ refusal e }
+{
+    match e {
+        Error::OutOfMemory => ScenarioError::NoMemory,
+        Error::Invalid | Error::TooLong | Error::DuplicateKey => ScenarioError::NotJson,
+    }
+}
+
+/// The value that the bytes are, which nests at most 127 deep and has no number that is too large for a float.
+fn tree<'a>(alloc: Global, bytes: &'a [u8], scratch: &'a mut Scratch) -> Result<Value<'a>, Error>
+    ensures ok { IfOk result (λ value. tree_of bytes.now ≡ Some (view value)) }
+    ensures refused { IfErr result (λ e. e ≢ OutOfMemory → tree_of bytes.now ≡ None) }
+{
+    match std::str::from_utf8(bytes) {
+        Ok(text) => tree_of_text(alloc, text, scratch),
+        Err(_) => Err(Error::Invalid),
+    }
+}
+
+fn tree_of_text<'a>(
+    alloc: Global,
+    text: &'a str,
+    scratch: &'a mut Scratch,
+) -> Result<Value<'a>, Error>
+    ensures ok { IfOk result (λ value. read text.now ≡ Some (view value)) }
+    ensures refused { IfErr result (λ e. e ≢ OutOfMemory → read text.now ≡ None) }
+{
+    let mut reader = json::Reader::new(text, scratch)?;
+    let value = Value::read(alloc, &mut reader, MAX_DEPTH)?;
+    if reader.next().is_some() {
+        return Err(Error::Invalid);
+    }
+    if !numbers_fit(&value) {
+        return Err(Error::Invalid);
+    }
+    Ok(value)
+}
+
 #[tactic(auto, unfolding(crate::specs::Plans::whole_plan_of, crate::specs::Tree::known_keys))]
-fn plan(alloc: Global, value: &Value) -> Result<Scenario, ScenarioError>
+fn plan(alloc: Global, value: &Value<'_>) -> Result<Scenario, ScenarioError>
     ensures { Gives result (whole_plan_of (view value.now)) }
 {
     let keys = [
@@ -71,7 +112,7 @@ fn plan(alloc: Global, value: &Value) -> Result<Scenario, ScenarioError>
 }
 
 #[tactic(auto, unfolding(crate::specs::Plans::guests_of))]
-fn guests(alloc: Global, value: &Value) -> Result<Items<GuestPlan>, ScenarioError>
+fn guests(alloc: Global, value: &Value<'_>) -> Result<Items<GuestPlan>, ScenarioError>
     ensures { Gives result (guests_of (view value.now)) }
 {
     let guests = member(alloc, value, "guests", &ListOf::new(1, MAX_GUESTS, Guest))?;
@@ -82,7 +123,7 @@ fn guests(alloc: Global, value: &Value) -> Result<Items<GuestPlan>, ScenarioErro
 #[tactic(auto, unfolding(crate::specs::Plans::schedule_of))]
 fn schedule(
     alloc: Global,
-    value: &Value,
+    value: &Value<'_>,
     guests: &[GuestPlan],
 ) -> Result<Items<Event>, ScenarioError>
     ensures { Gives result (schedule_of guests.now (view value.now)) }
@@ -144,10 +185,10 @@ fn without_blocks(number: u32, guest: &GuestPlan) -> Option<u32>
 }
 
 #[tactic(auto, unfolding(crate::specs::Plans::schedule_event_of))]
-fn schedule_event(guests: &[GuestPlan], value: &Value) -> Result<Event, Kind>
+fn schedule_event(guests: &[GuestPlan], value: &Value<'_>) -> Result<Event, Kind>
     ensures { result ≡ schedule_event_of guests.now (view value.now) }
 {
-    let text = value.as_str().ok_or(Kind::Type_)?;
+    let text = as_str(value).ok_or(Kind::Type_)?;
     event(guests, text.as_bytes())
 }
 
@@ -162,7 +203,7 @@ impl Reader for Scheduled<'_> {
 
     ghost reads = { λ s tree. here (schedule_event_of s.guests.now tree) };
 
-    fn read(&self, alloc: Global, value: &Value) -> Result<Event, ScenarioError> {
+    fn read(&self, alloc: Global, value: &Value<'_>) -> Result<Event, ScenarioError> {
         here(alloc, schedule_event(self.guests, value))
     }
 }

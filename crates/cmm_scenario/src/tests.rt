@@ -7,7 +7,7 @@ use std::test::Fail;
 const SMALLEST: &str =
     r#"{"version":1,"frames":4,"guests":[{"pages":4,"swap":0,"files":[{"pages":1,"head":"68656c6c6f"}],"cpus":[{"process":0,"commands":["read 0 0 5"]}]}],"schedule":["cpu 0 0","cpu 0 0","cpu 0 0"]}"#;
 
-const FAULTS: [(&str, &str, Kind); 12] = [
+const FAULTS: [(&str, &str, Kind); 14] = [
     (
         r#"{"version":1,"guests":[{"pages":4,"swap":0,"files":[],"cpus":[{"process":0,"commands":[]}]}]}"#,
         "/frames",
@@ -60,6 +60,12 @@ const FAULTS: [(&str, &str, Kind); 12] = [
         Kind::Total,
     ),
     ("[[[[]]]]", "/", Kind::Type_),
+    (
+        r#"{"version":1e308,"frames":4,"version":1,"frames":18446744073709551616}"#,
+        "/frames",
+        Kind::Type_,
+    ),
+    (r#"{"version":1,"frames":-4}"#, "/frames", Kind::Type_),
 ];
 
 #[test]
@@ -82,7 +88,17 @@ fn refuses_what_is_no_json(rt: HostRuntime) -> Result<(), Fail> {
     let deepest = nested(alloc, 127)?;
     let too_deep = nested(alloc, 128)?;
     let cut: &[u8] = b"{\"version\":1,\"frames\":4,";
-    for bytes in [b"".as_slice(), cut, b"\xff".as_slice(), too_deep.as_slice()] {
+    let two_values: &[u8] = b"[] []";
+    let too_large: &[u8] = b"{\"version\":1,\"color\":[1e308,-1e309],\"color\":1}";
+    let broken = b"\xff".as_slice();
+    for bytes in [
+        b"".as_slice(),
+        cut,
+        two_values,
+        too_large,
+        broken,
+        too_deep.as_slice(),
+    ] {
         assert!(rt; matches!(read_scenario(alloc, bytes), Err(ScenarioError::NotJson)));
     }
     assert!(rt;

@@ -1,19 +1,19 @@
-ghost use Rattle.std.specs.Prelude.{◌≡◌, [], map, decimal, option_map, string_bytes, Some, Result, Err};
+ghost use Rattle.std.specs.Prelude.{◌≡◌, [], map, decimal, Result, Err};
 ghost use Rattle.std.specs.List.{list_all};
-ghost use Rattle.std.specs.BTreeMap.{keys};
 ghost use Rattle.serde_json.specs.Data.{Data};
-ghost use Rattle.serde_json.specs.View.{view};
+ghost use Rattle.cmm_scenario.specs.Borrowed.{view};
 ghost use Rattle.cmm_scenario.specs.Faults.{Gives, error_inside};
 ghost use Rattle.cmm_scenario.specs.Tree.{whole_number, number_in, number, known_keys, member_of, member_or, each_from, list_of};
 ghost use Rattle.cmm_scenario.specs.Lent.{texts, is_lent};
 ghost use Rattle.cmm_scenario.specs.declared.error.ScenarioError.{ScenarioError};
 
+use crate::borrowed::{as_array, as_object, as_u64, get};
 use crate::error::{ScenarioError, here, inside};
 use crate::fault::Kind;
 use crate::words::within;
 use cmm_types::Items;
 use itoa::Buffer;
-use serde_json::{Map, Value};
+use json::Value;
 use std::alloc::Global;
 
 /// A way to read a value of JSON, or to find its first fault.
@@ -22,7 +22,7 @@ pub trait Reader {
 
     ghost reads: { Self → Data → Result Self.Item ScenarioError };
 
-    fn read(&self, alloc: Global, value: &Value) -> Result<Self::Item, ScenarioError>
+    fn read(&self, alloc: Global, value: &Value<'_>) -> Result<Self::Item, ScenarioError>
         ensures { Gives result (reads self.now (view value.now)) };
 }
 
@@ -46,20 +46,20 @@ impl Reader for Number {
 
     ghost reads = { λ range tree. number range.low range.high tree };
 
-    fn read(&self, alloc: Global, value: &Value) -> Result<u32, ScenarioError> {
+    fn read(&self, alloc: Global, value: &Value<'_>) -> Result<u32, ScenarioError> {
         here(alloc, number_in(value, self.low, self.high))
     }
 }
 
 #[tactic(auto, unfolding(crate::specs::Tree::whole_number))]
-fn whole_number(value: &Value) -> Result<u64, Kind>
+fn whole_number(value: &Value<'_>) -> Result<u64, Kind>
     ensures { result ≡ whole_number (view value.now) }
 {
-    value.as_u64().ok_or(Kind::Type_)
+    as_u64(value).ok_or(Kind::Type_)
 }
 
 #[tactic(auto, unfolding(crate::specs::Tree::number_in))]
-fn number_in(value: &Value, low: u32, high: u32) -> Result<u32, Kind>
+fn number_in(value: &Value<'_>, low: u32, high: u32) -> Result<u32, Kind>
     ensures { result ≡ number_in low high (view value.now) }
 {
     let number = whole_number(value)?;
@@ -72,18 +72,18 @@ fn is_among(names: &[&str], name: &str) -> bool
     names.iter().any(|known| name == *known)
 }
 
-fn all_among(names: &[&str], members: &Map<String, Value>) -> bool
-    ensures { result ≡ list_all (λ key. is_lent names.now (string_bytes key)) (keys members.now) }
+fn all_among(names: &[&str], members: &[(&str, Value<'_>)]) -> bool
+    ensures { result ≡ list_all (λ member. is_lent names.now member.0.now) members.now }
 {
-    members.keys().all(|key| is_among(names, key.as_str()))
+    members.iter().all(|member| is_among(names, member.0))
 }
 
 /// Refuses what is no object, and an object with a key beside these.
 #[tactic(auto, unfolding(crate::specs::Tree::known_keys))]
-pub fn known_keys(value: &Value, names: &[&str]) -> Result<(), Kind>
+pub fn known_keys(value: &Value<'_>, names: &[&str]) -> Result<(), Kind>
     ensures { result ≡ known_keys (texts names.now) (view value.now) }
 {
-    let Some(members) = value.as_object() else {
+    let Some(members) = as_object(value) else {
         return Err(Kind::Type_);
     };
     if all_among(names, members) {
@@ -96,13 +96,13 @@ pub fn known_keys(value: &Value, names: &[&str]) -> Result<(), Kind>
 /// The member of a key that must be there.
 pub fn member<R: Reader>(
     alloc: Global,
-    object: &Value,
+    object: &Value<'_>,
     key: &str,
     reader: &R,
 ) -> Result<R::Item, ScenarioError>
     ensures { Gives result (member_of key.now (R.reads reader.now) (view object.now)) }
 {
-    let read = match object.get(key) {
+    let read = match get(object, key) {
         Some(value) => reader.read(alloc, value),
         None => here(alloc, Err(Kind::Missing)),
     };
@@ -112,14 +112,14 @@ pub fn member<R: Reader>(
 /// The member of a key, or the default where it is absent.
 pub fn member_or<R: Reader>(
     alloc: Global,
-    object: &Value,
+    object: &Value<'_>,
     key: &str,
     default: R::Item,
     reader: &R,
 ) -> Result<R::Item, ScenarioError>
     ensures { Gives result (member_or key.now default (R.reads reader.now) (view object.now)) }
 {
-    match object.get(key) {
+    match get(object, key) {
         Some(value) => inside(alloc, key.as_bytes(), reader.read(alloc, value)),
         None => Ok(default),
     }
@@ -154,26 +154,26 @@ impl<R: Reader> Reader for ListOf<R> {
     ghost reads = { λ list tree. list_of list.low list.high (R.reads list.item) tree };
 
     #[tactic(auto, using(crate::proofs::Trees::trees), unfolding(crate::specs::Tree::list_of))]
-    fn read(&self, alloc: Global, value: &Value) -> Result<Items<R::Item>, ScenarioError> {
-        let Some(list) = value.as_array() else {
+    fn read(&self, alloc: Global, value: &Value<'_>) -> Result<Items<R::Item>, ScenarioError> {
+        let Some(list) = as_array(value) else {
             return here(alloc, Err(Kind::Type_));
         };
         let len = list.len();
         if len < self.low as usize || len > self.high as usize {
             return here(alloc, Err(Kind::Range));
         }
-        items(alloc, &self.item, list.as_slice())
+        items(alloc, &self.item, list)
     }
 }
 
 fn items<R: Reader>(
     alloc: Global,
     reader: &R,
-    list: &[Value],
+    list: &[Value<'_>],
 ) -> Result<Items<R::Item>, ScenarioError>
     ensures { Gives result (each_from 0 (R.reads reader.now) (map view list.now)) }
 {
-    let mut items = Vec::new(alloc);
+    let mut items = Vec::with_capacity(alloc, list.len())?;
     for (place, value) in list.iter().enumerate() {
         match reader.read(alloc, value) {
             Ok(item) => items.push(item)?,

@@ -1,5 +1,5 @@
 use Rattle.std.proofs.Common.{◌≡◌, drop, map}
-use Rattle.serde_json.specs.View.{view}
+use Rattle.cmm_scenario.specs.Borrowed.{view}
 use Rattle.cmm_scenario.specs.Tree.{each_from}
 use Rattle.cmm_scenario.proofs.Trees.{with_front}
 use Rattle.cmm_scenario.proofs.tree.items.Given as goal
