@@ -1,7 +1,8 @@
 -- The words of a command or an event, which single spaces part, and the numbers and bytes that they spell.
-use Rattle.std.specs.Prelude.{ℕ, ◌==◌, ◌&&◌, Bool, true, false, not, nat_le, if◌then◌else◌, List, [], ◌∷◌, length, take, drop, Result, Ok, Err, position, unwrap_or}
+use Rattle.std.specs.Prelude.{ℕ, ◌*◌, ◌==◌, ◌&&◌, Bool, true, false, not, nat_le, if◌then◌else◌, List, [], ◌∷◌, length, take, drop, Result, Ok, Err, position, unwrap_or}
 use Rattle.std.specs.Str.{all_ascii_digits}
 use Rattle.std.specs.Str.Parse.{digits_value}
+use Rattle.cmm_types.specs.declared.bytes.TheConstants.{MAX_BYTES}
 use Rattle.hex.specs.Hex.{decode_of}
 use Rattle.hex.specs.declared.error.FromHexError.{FromHexError}
 use Rattle.cmm_scenario.specs.declared.fault.Kind.{Kind}
@@ -46,7 +47,7 @@ or_fault fault (Err e) = Err fault
 
 -- 2 to 128 hexadecimal digits of either case, an even number
 unfoldable pub word_bytes : List ℕ → Result (List ℕ) Kind
-word_bytes digits = if nat_le 1 (length digits) && nat_le (length digits) 128 then or_fault Text (decode_of digits) else Err Text
+word_bytes digits = if nat_le 1 (length digits) && nat_le (length digits) (2 * MAX_BYTES) then or_fault Text (decode_of digits) else Err Text
 
 -- bytes, and the text after them
 unfoldable pub take_bytes : List ℕ → Result (List ℕ × List ℕ) Kind
