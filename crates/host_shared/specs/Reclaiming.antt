@@ -68,6 +68,13 @@ module _ {P B : Type 0} (step : P → PagerCall B → P → Type 0) where
 abbrev pub given_more : PoolSeatView → ℕ → PoolSeatView
 given_more seat count = record seat { given = seat.given + count }
 
+-- a seat of a guest's words, which holds no page; a seat of the pool; and the words have the pool for their house
+pub record CanLook (words : WordsView) (pool : PoolId) (seat : Seated) (pool_seat : PoolSeatView) : Type 0 where
+  pub of_words : seat.words ≡ words
+  pub none_held : seat.view.held ≡ None
+  pub of_pool : pool_seat.pool ≡ pool
+  pub housed : words.house ≡ pool.table
+
 -- a seat of each guest's words, in the words' order, which hold no page; a seat of the pool; and all words have the pool for
 -- their house
 pub record CanReclaim (words : List WordsView) (pool : PoolId) (seats : List Seated) (seat : PoolSeatView) : Type 0 where

@@ -6,7 +6,7 @@ ghost use Rattle.state_words.specs.SeatView.{SeatView, IsHostSeat};
 ghost use Rattle.state_words.specs.Steps.{claimed_view};
 ghost use Rattle.host_shared.specs.Bodies.{lent_body, body_house};
 ghost use Rattle.host_shared.specs.Looks.{GrewByLooks, pages_but, freed_in};
-ghost use Rattle.host_shared.specs.Reclaiming.{Reclaims, IsReclaim, PutsOnce, CanReclaim, Passes, freed_of, given_more, is_spared};
+ghost use Rattle.host_shared.specs.Reclaiming.{Reclaims, IsReclaim, PutsOnce, CanLook, CanReclaim, Passes, freed_of, given_more, is_spared};
 
 use crate::body::PageBody;
 use crate::gate::{Gate, Point, Who};
@@ -106,11 +106,8 @@ pub fn reclaim_page<P: Pager<Block = MemBlock>>(
     pool: &Pool,
     pool_seat: &mut PoolSeat,
 ) -> Outcome
-    requires words { seat.old.words ≡ words.now }
+    requires can { CanLook words.now pool.now seat.old pool_seat.old }
     requires page { page < words.now.pages }
-    requires none_held { seat.old.view.held ≡ None }
-    requires pool { pool_seat.old.pool ≡ pool.now }
-    requires house { words.now.house ≡ pool.now.table }
     ensures words { seat.new.words ≡ seat.old.words }
     ensures none_held { seat.new.view.held ≡ None }
     ensures faults { P.faults pager.old ≤ P.faults pager.new }
@@ -151,10 +148,7 @@ fn reclaim_guest<P: Pager<Block = MemBlock>, G: Gate>(
     gate: &G,
     who: u32,
 ) -> u32
-    requires words { seat.old.words ≡ words.now }
-    requires none_held { seat.old.view.held ≡ None }
-    requires pool { pool_seat.old.pool ≡ pool.now }
-    requires house { words.now.house ≡ pool.now.table }
+    requires can { CanLook words.now pool.now seat.old pool_seat.old }
     ensures words { seat.new.words ≡ seat.old.words }
     ensures none_held { seat.new.view.held ≡ None }
     ensures faults { P.faults pager.old ≤ P.faults pager.new }

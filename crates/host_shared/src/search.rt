@@ -8,7 +8,7 @@ ghost use Rattle.host_shared.specs.Bodies.{IsOfHouse, body_house};
 ghost use Rattle.host_shared.specs.Touching.{TouchMakes, TouchCause};
 ghost use Rattle.state_words.specs.SeatView.{SeatView, WordsView, Seated};
 ghost use Rattle.host_shared.specs.Looks.{pages_but, is_page};
-ghost use Rattle.host_shared.specs.Reclaiming.{CanReclaim, Reclaims};
+ghost use Rattle.host_shared.specs.Reclaiming.{CanLook, CanReclaim, Reclaims};
 ghost use Rattle.host_shared.specs.Searching.{LooksIn, round_but, held_of, Searched, FoundNone};
 ghost use Rattle.host_shared.specs.Finding.{WhereFrame, WherePaging, WhereNothing, KeepsSupply};
 
@@ -114,11 +114,8 @@ impl Supply {
         page: u32,
         pool: &Pool,
     ) -> Outcome
-        requires words { seat.old.words ≡ words.now }
+        requires can { CanLook words.now pool.now seat.old self.old.seat }
         requires page { page < words.now.pages }
-        requires none_held { seat.old.view.held ≡ None }
-        requires pool { self.old.seat.pool ≡ pool.now }
-        requires house { words.now.house ≡ pool.now.table }
         ensures words { seat.new.words ≡ seat.old.words }
         ensures none_held { seat.new.view.held ≡ None }
         ensures keeps { KeepsSupply self.old self.new }
@@ -145,11 +142,8 @@ impl Supply {
         page: u32,
         pool: &Pool,
     ) -> Found
-        requires words { seat.old.words ≡ words.now }
+        requires can { CanLook words.now pool.now seat.old self.old.seat }
         requires page { page < words.now.pages }
-        requires none_held { seat.old.view.held ≡ None }
-        requires pool { self.old.seat.pool ≡ pool.now }
-        requires house { words.now.house ≡ pool.now.table }
         ensures words { seat.new.words ≡ seat.old.words }
         ensures none_held { seat.new.view.held ≡ None }
         ensures keeps { KeepsSupply self.old self.new }
@@ -179,12 +173,9 @@ impl Supply {
         skip: Option<u32>,
         pool: &Pool,
     ) -> Found
-        requires words { seat.old.words ≡ words.now }
+        requires can { CanLook words.now pool.now seat.old self.old.seat }
         requires order { from ≤ upto }
         requires pages { upto ≤ words.now.pages }
-        requires none_held { seat.old.view.held ≡ None }
-        requires pool { self.old.seat.pool ≡ pool.now }
-        requires house { words.now.house ≡ pool.now.table }
         ensures words { seat.new.words ≡ seat.old.words }
         ensures none_held { seat.new.view.held ≡ None }
         ensures keeps { KeepsSupply self.old self.new }
@@ -220,11 +211,8 @@ impl Supply {
         pool: &Pool,
         looks: u64,
     ) -> Found
-        requires words { seat.old.words ≡ words.now }
+        requires can { CanLook words.now pool.now seat.old self.old.seat }
         requires start { start ≤ words.now.pages }
-        requires none_held { seat.old.view.held ≡ None }
-        requires pool { self.old.seat.pool ≡ pool.now }
-        requires house { words.now.house ≡ pool.now.table }
         requires few { looks < 2 ^ 32 }
         ensures words { seat.new.words ≡ seat.old.words }
         ensures none_held { seat.new.view.held ≡ None }
@@ -254,11 +242,8 @@ impl Supply {
         skip: Option<u32>,
         pool: &Pool,
     ) -> Found
-        requires words { seat.old.words ≡ words.now }
+        requires can { CanLook words.now pool.now seat.old self.old.seat }
         requires start { start ≤ words.now.pages }
-        requires none_held { seat.old.view.held ≡ None }
-        requires pool { self.old.seat.pool ≡ pool.now }
-        requires house { words.now.house ≡ pool.now.table }
         ensures words { seat.new.words ≡ seat.old.words }
         ensures none_held { seat.new.view.held ≡ None }
         ensures keeps { KeepsSupply self.old self.new }
