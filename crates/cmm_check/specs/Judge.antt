@@ -8,6 +8,8 @@ use Rattle.cmm_check.specs.declared.judging.TheConstants.{MAX_SCENARIO}
 use Rattle.cmm_check.specs.declared.judging.InputError.{InputError}
 use Rattle.cmm_check.specs.declared.judging.InputError.TheVariants.{NoReport, LongScenario, NotJson, Fault, NoMemory}
 use Rattle.cmm_check.specs.declared.verdict.Verdict.{Verdict}
+use Rattle.cmm_check.specs.declared.verdict.Verdict.TheVariants.{Accepted}
+use Rattle.cmm_check.specs.Accepted.{LegalReport}
 use Rattle.cmm_check.specs.Split.{BeginsAt}
 use Rattle.cmm_check.specs.Verdict.{verdict_of}
 
@@ -35,8 +37,17 @@ abbrev pub Judges : Result Verdict InputError → Result Verdict InputError → 
 Judges (Err NoMemory) wanted = Unit {0}
 Judges result wanted = result ≡ wanted
 
--- the answer on an input, by where its report begins
+-- the report in an input is legal for the scenario before it
+pub record IsLegalInput (input : List ℕ) : Type 0 where
+  pub start : ℕ
+  pub begins : BeginsAt input start
+  pub plan : Scenario
+  pub read : scenario_of (take (start - 1) input) ≡ Ok plan
+  pub legal : LegalReport plan (drop start input)
+
+-- the answer on an input, by where its report begins; accepted is only what is legal
 pub record IsJudged (input : List ℕ) (result : Result Verdict InputError) : Type 0 where
   pub start : Option ℕ
   pub split : IsSplit input start
   pub answer : Judges result (judged input start)
+  pub legal : result ≡ Ok Accepted → IsLegalInput input

@@ -1,7 +1,8 @@
-ghost use Rattle.std.specs.Prelude.{◌≡◌, ◌+◌, ◌-◌, ◌^◌, ◌<◌, ◌≤◌, ◌==◌, length, IfOk, All};
+ghost use Rattle.std.specs.Prelude.{◌≡◌, ◌+◌, ◌-◌, ◌^◌, ◌<◌, ◌≤◌, ◌==◌, ◌↔◌, length, IfOk, All};
 ghost use Rattle.cmm_types.specs.declared.plan.TheConstants.{MAX_GUESTS};
 ghost use Rattle.cmm_types.specs.InRange.{GuestInRange, ScenarioInRange};
-ghost use Rattle.cmm_check.specs.declared.verdict.Verdict.TheVariants.{Rejected};
+ghost use Rattle.cmm_check.specs.declared.verdict.Verdict.TheVariants.{Accepted, Rejected};
+ghost use Rattle.cmm_check.specs.Accepted.{LegalReport};
 ghost use Rattle.cmm_check.specs.Journal.{no_lines_walked, entry_fits};
 ghost use Rattle.cmm_check.specs.Verdict.{line_that, events_fit, entries_fit, guest_fits, guests_fit, schedule_fits, report_fits, line_number, verdict_of};
 ghost use Rattle.cmm_check.specs.WalkAnswers.{GivesPart};
@@ -153,7 +154,8 @@ fn rejected(report: &[u8], rest: &[u8]) -> Verdict
 pub fn check(alloc: Global, plan: &Scenario, report: &[u8]) -> Result<Verdict, NoMemory>
     requires range { ScenarioInRange plan.now }
     requires short { length report.now + 1 < 2 ^ 32 }
-    ensures { IfOk result (λ verdict. verdict ≡ verdict_of plan.now report.now) }
+    ensures verdict { IfOk result (λ verdict. verdict ≡ verdict_of plan.now report.now) }
+    ensures legal { IfOk result (λ verdict. (verdict ≡ Accepted) ↔ LegalReport plan.now report.now) }
 {
     match lines(alloc, plan, report) {
         Ok(_) => Ok(Verdict::Accepted),
