@@ -21,6 +21,7 @@ use Rattle.cmm_io.specs.Faults.{HasRisen}
 use Rattle.cmm_io.specs.DiskView.{DiskView}
 use Rattle.essa_state.specs.PageValue.{Bytes as BytesOf, is_lost, may_lose}
 use Rattle.cmm_storage.specs.StorageView.{StorageView, Misses}
+use Rattle.cmm_storage.specs.Views.{Seen}
 use Rattle.guest_pages.specs.PagesView.{info_at}
 use Rattle.guest_cache.specs.CacheView.{page_of}
 use Rattle.guest_maps.specs.MapsView.{find_slot, slot_at, entry_at, pinned_at, tag_at}
@@ -32,7 +33,7 @@ use Rattle.guest_rules.specs.MakeRoom.{first_to_go, first_locked, pinned_count}
 use Rattle.guest_rules.specs.Stuck.{IsStuck, NeedsFreePage}
 use Rattle.guest_rules.specs.Fit.{IsKept, IsUntagged, backing, current}
 use Rattle.guest_rules.specs.Alone.{turns_of}
-use Rattle.guest_rules.specs.Turns.{file_pages, mapping_pages}
+use Rattle.guest_rules.specs.Turns.{file_pages, mapping_pages, turn}
 
 -- the flat machine doesn't refuse the command, in the state that the journal leads to
 abbrev pub IsAccepted : GuestState → (cpu : ℕ) → Op → Type 0
@@ -300,11 +301,17 @@ abbrev pub NoWrongDiscard : StorageView → StorageView → Type 0
 NoWrongDiscard v w =
     (page : ℕ) → page < v.pages → is_lost (w.values page).contents ≡ true → (is_lost (v.values page).contents ≡ true) ⊎ (may_lose (v.values page).usage (v.values page).changed ≡ true)
 
--- so many turns of a processor moved, one after another, each for its cause
+-- one turn of a processor, by its program: it has its cause, and discards no page wrongly
+pub record WentRightly (g : GuestState) (v : StorageView) (d : DiskView) (cpu : ℕ) (t : Turn) (h : GuestState) (w : StorageView) (e : DiskView) : Type 0 where
+  pub turns : Seen {A = GuestState × Turn} (turn g cpu) v d (h, t) w e
+  pub cause : TurnCause g v d cpu t h w e
+  pub discards : NoWrongDiscard v w
+
+-- so many turns of a processor moved, one after another
 abbrev pub HaveMoved : (turns : ℕ) → GuestState → StorageView → DiskView → (cpu : ℕ) → GuestState → StorageView → DiskView → Type 0
 HaveMoved zero g v d cpu h w e = (h ≡ g) × (w ≡ v) × (e ≡ d)
 HaveMoved (suc turns) g v d cpu h w e =
-    (m : GuestState) × (n : StorageView) × (y : DiskView) × TurnCause g v d cpu Moved m n y × HaveMoved turns m n y cpu h w e
+    (m : GuestState) × (n : StorageView) × (y : DiskView) × WentRightly g v d cpu Moved m n y × HaveMoved turns m n y cpu h w e
 
 -- so many turns moved, and the one behind them answered so
 pub record LastTurn (moved : ℕ) (g : GuestState) (v : StorageView) (d : DiskView) (cpu : ℕ) (t : Turn) (h : GuestState) (w : StorageView) (e : DiskView) : Type 0 where
@@ -312,7 +319,7 @@ pub record LastTurn (moved : ℕ) (g : GuestState) (v : StorageView) (d : DiskVi
   pub storage : StorageView
   pub disk : DiskView
   pub before : HaveMoved moved g v d cpu guest storage disk
-  pub last : TurnCause guest storage disk cpu t h w e
+  pub last : WentRightly guest storage disk cpu t h w e
 
 -- the processor's command may take so many turns
 abbrev pub MayTake : GuestState → (cpu turns : ℕ) → Type 0
@@ -323,4 +330,4 @@ MayTake g cpu turns = (op : Op) → command_of g.plan cpu (processor_at g cpu).p
 abbrev pub AloneCause : GuestState → StorageView → DiskView → ℕ → Alone → GuestState → StorageView → DiskView → Type 0
 AloneCause g v d cpu (AloneFinished turns) h w e = (moved : ℕ) × (turns ≡ moved + 1) × LastTurn moved g v d cpu Finished h w e × MayTake g cpu turns
 AloneCause g v d cpu (AloneWaits turns page owner) h w e = LastTurn turns g v d cpu (Waits page owner) h w e × MayTake g cpu (turns + 1)
-AloneCause g v d cpu AloneIdle h w e = TurnCause g v d cpu Idle h w e
+AloneCause g v d cpu AloneIdle h w e = WentRightly g v d cpu Idle h w e
