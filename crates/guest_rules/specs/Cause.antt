@@ -7,7 +7,7 @@ use Rattle.cmm_types.specs.declared.turn.Alone.TheVariants.{Finished as AloneFin
 use Rattle.cmm_types.specs.declared.page.TheConstants.{PAGE}
 use Rattle.cmm_types.specs.declared.page.Usage.TheVariants.{S}
 use Rattle.cmm_types.specs.declared.page.Tag.{Tag}
-use Rattle.cmm_types.specs.declared.page.Tag.TheVariants.{File}
+use Rattle.cmm_types.specs.declared.page.Tag.TheVariants.{File, Anon}
 use Rattle.cmm_types.specs.declared.command.Op.{Op}
 use Rattle.cmm_types.specs.declared.command.Op.TheVariants.{Read, Write, Sync, MapFile, MapAnon, Unmap, Load, Store, Pin, Unpin}
 use Rattle.cmm_types.specs.declared.command.Reply.{Reply}
@@ -30,6 +30,7 @@ use Rattle.guest_rules.specs.declared.processor.Phase.TheVariants.{Start, Fill, 
 use Rattle.guest_rules.specs.GuestState.{GuestState, processor_at, with_parts, entered}
 use Rattle.guest_rules.specs.Rows.{dirtied}
 use Rattle.guest_rules.specs.MakeRoom.{first_to_go, first_locked, pinned_count}
+use Rattle.guest_rules.specs.Wanted.{wanted_tag}
 use Rattle.guest_rules.specs.Stuck.{IsStuck, NeedsFreePage}
 use Rattle.guest_rules.specs.Fit.{IsKept, IsUntagged, backing, current}
 use Rattle.guest_rules.specs.Alone.{turns_of}
@@ -259,11 +260,26 @@ pub record RoomMoves (g : GuestState) (cpu : ℕ) (h : GuestState) (w : StorageV
   pub writes : (page : ℕ) (tag : Tag) → (processor_at g cpu).phase ≡ AtRoom page → (info_at g.parts.pages page).tag ≡ Some tag
       → ((processor_at h cpu).phase ≡ Start) × (backing h.parts.cache e tag ≡ current h.parts w e tag)
 
--- the page is locked by that other processor. Where the command needs room, no page can go and it is the first one that is locked
+-- the tag of the page that a turn is at: the one that its command needs, that its sync looks at, or that its unmap takes off
+abbrev pub IsAtTag : GuestState → (cpu : ℕ) → Op → Phase → Tag → Type 0
+IsAtTag g cpu op Start tag = (wanted_tag g.parts (process_of g.plan cpu) op ≡ Some tag) ⊎ ((file : ℕ) × (op ≡ Sync file) × (tag ≡ File file 0))
+IsAtTag g cpu op (Fill page) tag = ⊥
+IsAtTag g cpu op (AtRoom page) tag = ⊥
+IsAtTag g cpu op (AtSync index) tag = (file : ℕ) × (op ≡ Sync file) × (tag ≡ File file index)
+IsAtTag g cpu op (SyncWrite index page) tag = ⊥
+IsAtTag g cpu op (Teardown slot index) tag = tag ≡ Anon slot index
+
+-- the page that a turn is at
+abbrev pub IsAtPage : GuestState → (cpu : ℕ) → Op → (page : ℕ) → Type 0
+IsAtPage g cpu op page = (tag : Tag) × IsAtTag g cpu op (processor_at g cpu).phase tag × (page_of g.parts.cache tag ≡ Some page)
+
+-- the page is locked by that other processor. It is the one that the turn is at; or the command needs room, no page can go, and it is the
+-- first one that is locked
 pub record WaitsFor (g : GuestState) (cpu page owner : ℕ) : Type 0 where
   pub locked : (info_at g.parts.pages page).owner ≡ Some owner
   pub command : (op : Op) × (command_of g.plan cpu (processor_at g cpu).place ≡ Some op)
   pub other : owner ≢ cpu
+  pub its : (op : Op) → command_of g.plan cpu (processor_at g cpu).place ≡ Some op → NeedsFreePage g cpu op ⊎ IsAtPage g cpu op page
   pub room : (op : Op) → NeedsFreePage g cpu op → (g.parts.pages.free ≡ []) × (first_to_go g.parts ≡ None) × (first_locked g.parts ≡ Some page)
 
 -- the turn has to be taken again: neither the journal nor the place and phase changed, and of the tables at most that a page is known to be

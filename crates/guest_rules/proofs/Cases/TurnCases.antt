@@ -136,7 +136,8 @@ pub data SyncCase (g : GuestState) (cpu file index : ℕ) (v : StorageView) (d :
   -- no page has the tag
   not_there : Syncs g cpu file index → page_of g.parts.cache (File file index) ≡ None → Passes g cpu file index g.parts h t → w ≡ v → e ≡ d → SyncCase g cpu file index v d h t w e
   -- the page is locked
-  sync_waited : (page owner : ℕ) → Syncs g cpu file index → (info_at g.parts.pages page).owner ≡ Some owner → h ≡ g → t ≡ Waits page owner → w ≡ v → e ≡ d → SyncCase g cpu file index v d h t w e
+  sync_waited : (page owner : ℕ) → Syncs g cpu file index → page_of g.parts.cache (File file index) ≡ Some page → (info_at g.parts.pages page).owner ≡ Some owner
+      → h ≡ g → t ≡ Waits page owner → w ≡ v → e ≡ d → SyncCase g cpu file index v d h t w e
   -- the page was busy
   sync_missed : (why : Why) → Syncs g cpu file index → h ≡ g → t ≡ Again why → AllMay v d w e → Misses v w → e ≡ d → SyncCase g cpu file index v d h t w e
   -- the page had been discarded

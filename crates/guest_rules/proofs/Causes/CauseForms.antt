@@ -78,12 +78,13 @@ others_move g cpu op h w e has other file command =
     let same : op ≡ Sync file = cc in
     absurd (other file same)
 
--- a processor that has a command that needs a page has no other
+-- a processor has one command
+pub one_command : (g : GuestState) (cpu : ℕ) (op other : Op) → Has g cpu op → command_of g.plan cpu (processor_at g cpu).place ≡ Some other → op ≡ other
+one_command g cpu op other has command = let both : Some op ≡ Some other = sym has.command ∙ command in cc
+
+-- so one that has a command that needs a page has no other
 needing_page : (g : GuestState) (cpu : ℕ) (op needing : Op) → Has g cpu op → command_of g.plan cpu (processor_at g cpu).place ≡ Some needing → CanNeedPage needing → CanNeedPage op
-needing_page g cpu op needing has command needs =
-    let both : Some needing ≡ Some op = sym command ∙ has.command in
-    let same : needing ≡ op = cc in
-    subst CanNeedPage same needs
+needing_page g cpu op needing has command needs = subst CanNeedPage (sym (one_command g cpu op needing has command)) needs
 
 -- g the guest, v its storage, d its disk, cpu the processor, op its command, page the page
 module _ (g : GuestState) (v : StorageView) (d : DiskView) (cpu : ℕ) (op : Op) (page : ℕ) where

@@ -26,7 +26,7 @@ use Rattle.guest_rules.proofs.Fit.Replies.{refused-same}
 use Rattle.guest_rules.proofs.Ready.Ready.{HasToWrite, paging_out-has}
 use Rattle.guest_rules.proofs.Bound.Ranks.{wants_not_sync, wants_not_unmap}
 use Rattle.guest_rules.proofs.Causes.PagesSynced.{SyncedAt, synced_written}
-use Rattle.guest_rules.proofs.Causes.CauseForms.{moved_parts, moved_phase, finished, fill_cause, phase_after, others_move, pages_out_for_other, pages_out_no_unmap}
+use Rattle.guest_rules.proofs.Causes.CauseForms.{moved_parts, moved_phase, finished, fill_cause, phase_after, others_move, one_command, pages_out_for_other, pages_out_no_unmap}
 use Rattle.guest_rules.proofs.Causes.RoomMoves.{starts_again}
 use Rattle.guest_rules.proofs.Causes.TearMoves.{moves_on, stays_at_start}
 
@@ -127,6 +127,7 @@ room_causes g v w d e cpu op h t f (room_waited page owner k none first locked e
         locked = locked;
         command = (op, k.starts.has.command);
         other = λ same. locks_none g cpu Start k.starts.start tt page (f.locks.locked cpu page (locked ∙ ap Some same));
+        its = λ other command. inl (subst (NeedsFreePage g cpu) (one_command g cpu op other k.starts.has command) (needs_page g cpu op k));
         room = λ other needs. (k.full, none, first);
       },
     )
