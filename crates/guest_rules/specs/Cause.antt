@@ -139,7 +139,7 @@ ShowsDone g cpu (Unpin number index) h w e = IsUnpinned h (process_of g.plan cpu
 
 -- what stands once a command of the processor is answered with bytes
 abbrev pub ShowsBytes : GuestState → (cpu : ℕ) → Op → GuestState → Type 0
-ShowsBytes g cpu (Read file off len) h = Unit {0}
+ShowsBytes g cpu (Read file off len) h = IsKept h.parts (File file (off / PAGE))
 ShowsBytes g cpu (Write file off bytes) h = ⊥
 ShowsBytes g cpu (Sync file) h = ⊥
 ShowsBytes g cpu (MapFile number file first count writable) h = ⊥
@@ -187,6 +187,8 @@ pub record HasTorn (g : GuestState) (cpu slot index : ℕ) (h : GuestState) : Ty
 
 -- an unmap that was answered took off its mapping's last page, and the slot is free: the processor goes on to its next command
 pub record HasTornDown (g : GuestState) (cpu : ℕ) (h : GuestState) : Type 0 where
+  pub number : ℕ
+  pub command : command_of g.plan cpu (processor_at g cpu).place ≡ Some (Unmap number)
   pub slot : ℕ
   pub index : ℕ
   pub torn : HasTorn g cpu slot index h

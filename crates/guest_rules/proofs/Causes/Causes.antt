@@ -26,6 +26,7 @@ use Rattle.guest_rules.proofs.Rows.Values.{may_used}
 use Rattle.guest_rules.proofs.Ready.Ready.{can_be_used}
 use Rattle.guest_rules.proofs.Bound.Ranks.{wants_not_sync, wants_not_unmap}
 use Rattle.guest_rules.proofs.Fit.Replies.{refused-same}
+use Rattle.guest_rules.proofs.Causes.ShownRead.{shows_read}
 use Rattle.guest_rules.proofs.Causes.ShownWritten.{shows_written}
 use Rattle.guest_rules.proofs.Causes.ShownPins.{shows_pinned}
 use Rattle.guest_rules.proofs.Kept.LocksKept.{locks_none}
@@ -115,7 +116,8 @@ answer_causes g v w d e cpu h t f (was_gone op tag page found starts wants has e
       stays_at_start g h cpu op _ starts (λ number is. wants_not_unmap g cpu op tag number wants is) eh,
     )
 answer_causes g v w d e cpu h t f (was_read file off len page found all after starts has back may are told eh et) =
-    rw et (finished g v w d e cpu (Read file off len) after _ h starts.has eh (accepted g v d cpu (Read file off len) f starts) tt)
+    rw et (finished g v w d e cpu (Read file off len) after _ h starts.has eh (accepted g v d cpu (Read file off len) f starts)
+    (shows_read _ g v w d cpu file off len page found _ after f has told))
 answer_causes g v w d e cpu h t f (was_written file off bytes page found all starts has back may are value eh et) =
     rw et (finished g v w d e cpu (Write file off bytes) (dirtied g.parts page) Done h starts.has eh (accepted g v d cpu (Write file off bytes) f starts)
     (shows_written _ g v w d e cpu file off bytes page found all f starts has may are value))

@@ -125,6 +125,8 @@ module _ (g h : GuestState) (cpu slot index : ℕ) (after : Parts) where
       let maps = ap (λ (q : GuestState). q.parts.maps) eh in
       let below : slot < length after.maps.slots = rw taken.slots (slot-below g.parts.maps slot k.tearing.mapping k.tearing.at) in
       record {
+        number = k.tearing.number;
+        command = k.tearing.command;
         slot = slot;
         index = index;
         torn = has_torn (freed_slot after.maps slot) k taken
