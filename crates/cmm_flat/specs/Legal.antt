@@ -77,12 +77,23 @@ over_live number flat = sum_over (λ live. number live.1) (finite.entries flat.m
 
 -- the anonymous pages that an entry ends: those of the mapping that an unmap ends
 abbrev pub pages_ended : FlatState → ℕ → Op → Reply → ℕ
+pages_ended flat process (Read file off len) reply = 0
+pages_ended flat process (Write file off bytes) reply = 0
+pages_ended flat process (Sync file) reply = 0
+pages_ended flat process (MapFile number file first count writable) reply = 0
+pages_ended flat process (MapAnon number count) reply = 0
 pages_ended flat process (Unmap number) Done = of (mapping_at flat process number)
   where
     of : Option Mapping → ℕ
     of None = 0
     of (Some mapping) = anonymous_pages mapping
-pages_ended flat process _ _ = 0
+pages_ended flat process (Unmap number) (Bytes bytes) = 0
+pages_ended flat process (Unmap number) (Refused refusal) = 0
+pages_ended flat process (Unmap number) (Fail cause) = 0
+pages_ended flat process (Load number off len) reply = 0
+pages_ended flat process (Store number off bytes) reply = 0
+pages_ended flat process (Pin number page) reply = 0
+pages_ended flat process (Unpin number page) reply = 0
 
 -- a failure leaves the state
 abbrev pub flat_after : FlatState → ℕ → Op → Reply → FlatState
@@ -113,10 +124,18 @@ CanFail (Store number off bytes) = Unit {0}
 CanFail (Pin number page) = Unit {0}
 CanFail (Unpin number page) = ⊥
 
--- a command that may need a free page; a sync never does
+-- a command that may need a free page: it reads, writes, loads, stores or pins. One that unpins doesn't, since its page is there
 abbrev pub CanNeedPage : Op → Type 0
+CanNeedPage (Read file off len) = Unit {0}
+CanNeedPage (Write file off bytes) = Unit {0}
 CanNeedPage (Sync file) = ⊥
-CanNeedPage op = CanFail op
+CanNeedPage (MapFile number file first count writable) = ⊥
+CanNeedPage (MapAnon number count) = ⊥
+CanNeedPage (Unmap number) = ⊥
+CanNeedPage (Load number off len) = Unit {0}
+CanNeedPage (Store number off bytes) = Unit {0}
+CanNeedPage (Pin number page) = Unit {0}
+CanNeedPage (Unpin number page) = ⊥
 
 -- each page of the guest is pinned, or holds anonymous bytes for which there is no swap slot
 pub record HasNoPage (plan : GuestPlan) (walk : Walk) (pinned unslotted : ℕ) : Type 0 where

@@ -295,12 +295,14 @@ impl Flat {
     pub fn would_end(&self, process: u32, op: &Op) -> usize
         ensures { result ≡ pages_ended self.now process op.now Done }
     {
-        let Op::Unmap { map } = op else {
-            return 0;
-        };
-        match self.mapping(process, *map) {
-            Some(mapping) => mapping.anonymous_pages(),
-            None => 0,
+        match op {
+            Op::Read { .. } | Op::Write { .. } | Op::Sync { .. } => 0,
+            Op::MapFile { .. } | Op::MapAnon { .. } => 0,
+            Op::Unmap { map } => match self.mapping(process, *map) {
+                Some(mapping) => mapping.anonymous_pages(),
+                None => 0,
+            },
+            Op::Load { .. } | Op::Store { .. } | Op::Pin { .. } | Op::Unpin { .. } => 0,
         }
     }
 

@@ -15,8 +15,9 @@ mod tests;
 pub use contents::Contents;
 pub use flat::Flat;
 pub use laws::{
-    entry_takes_its_number, failure_leaves_state, flat_never_fails, journal_grows, ranges_apart,
-    refusals_depend_on_lengths, steps_stay_sound, sums_change_at_one_key, worked_journals,
+    entries_are_of_commands, entry_takes_its_number, failure_leaves_state, flat_never_fails,
+    journal_grows, ranges_apart, refusals_depend_on_lengths, steps_stay_sound,
+    sums_change_at_one_key, worked_journals,
 };
 pub use mapping::{Mapping, MappingKey, Shown};
 pub use mappings::Mappings;

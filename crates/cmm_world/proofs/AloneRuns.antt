@@ -27,7 +27,7 @@ use Rattle.guest_rules.specs.Alone.{alone, alone_within, alone_after, most_turns
 use Rattle.guest_rules.specs.Fit.{Fit}
 use Rattle.guest_rules.specs.Cause.{AloneCause}
 use Rattle.guest_rules.proofs.TurnLaws.{Causes-alone}
-use Rattle.guest_core.proofs.AloneDiscards.{stopped_at, finished_at, waits_at}
+use Rattle.guest_core.proofs.AloneRuns.{stopped_at, finished_at, waits_at}
 use Rattle.cmm_types.specs.NoPlan.{no_plan}
 use Rattle.cmm_world.specs.WorldState.{WorldState, guest_at, disk_at}
 use Rattle.cmm_world.specs.WorldFit.{IsWorld}
@@ -232,7 +232,7 @@ spelled v y d e w guest cpu h (AloneFinished turns) x cause step (inr s) = spell
 spelled v y d e w guest cpu h (AloneWaits turns page owner) x cause step (inl idle) = let bad : AloneWaits turns page owner ≡ AloneIdle = idle in absurd cc
 spelled v y d e w guest cpu h (AloneWaits turns page owner) x cause step (inr s) = spelled_waits turns page owner w guest cpu x s
 spelled v y d e w guest cpu h AloneIdle x cause step stops =
-    let turn_is = idle_turn w guest cpu cause.answer.3 in
+    let turn_is = idle_turn w guest cpu cause.cause.answer.3 in
     let world : idle_world w guest ≡ x = ap (λ (q : AloneOutcome × WorldState). q.1) (sym (idle_alone most_turns w guest cpu some_turns turn_is) ∙ step) in
     subst (IsSpelled w guest cpu AloneIdle) world (spelled_idle w guest cpu turn_is)
 

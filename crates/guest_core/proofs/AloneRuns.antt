@@ -2,9 +2,9 @@
 use Rattle.std.proofs.Common.{◌≡◌, ◌<◌, ◌≤◌, ◌+◌, ◌-◌, ◌*◌, ℕ, suc, length, refl, ap, sym, subst, ◌∙◌, arith}
 use Rattle.cmm_types.specs.declared.plan.TheConstants.{MAX_FILE_PAGES}
 use Rattle.cmm_types.specs.declared.turn.Turn.{Turn}
-use Rattle.cmm_types.specs.declared.turn.Turn.TheVariants.{Moved}
+use Rattle.cmm_types.specs.declared.turn.Turn.TheVariants.{Moved, Finished, Waits, Again, Idle}
 use Rattle.cmm_types.specs.declared.turn.Alone.{Alone}
-use Rattle.cmm_types.specs.declared.turn.Alone.TheVariants.{Idle}
+use Rattle.cmm_types.specs.declared.turn.Alone.TheVariants.{Finished as AloneFinished, Waits as AloneWaits, Idle as AloneIdle}
 use Rattle.cmm_io.specs.DiskCall.{DiskCall}
 use Rattle.cmm_io.specs.DiskView.{DiskView}
 use Rattle.cmm_storage.specs.StorageCall.{StorageCall}
@@ -15,6 +15,28 @@ use Rattle.guest_rules.specs.GuestState.{GuestState}
 use Rattle.guest_rules.specs.Turns.{turn}
 use Rattle.guest_rules.specs.Alone.{most_turns, alone, alone_after, alone_within}
 use Rattle.guest_rules.specs.Fit.{Fit}
+
+-- what is answered where the turns stop, after so many that moved
+abbrev pub stopped_at : ℕ → Turn → Alone
+stopped_at turns Moved = AloneIdle
+stopped_at turns Finished = AloneFinished (turns + 1)
+stopped_at turns (Waits page owner) = AloneWaits turns page owner
+stopped_at turns (Again why) = AloneIdle
+stopped_at turns Idle = AloneIdle
+
+pub finished_at : (n m : ℕ) (t : Turn) → AloneFinished n ≡ stopped_at m t → (t ≡ Finished) × (n ≡ m + 1)
+finished_at n m Moved same = let bad : AloneFinished n ≡ AloneIdle = same in absurd cc
+finished_at n m Finished same = let its : AloneFinished n ≡ AloneFinished (m + 1) = same in (refl, cc)
+finished_at n m (Waits page owner) same = let bad : AloneFinished n ≡ AloneWaits m page owner = same in absurd cc
+finished_at n m (Again why) same = let bad : AloneFinished n ≡ AloneIdle = same in absurd cc
+finished_at n m Idle same = let bad : AloneFinished n ≡ AloneIdle = same in absurd cc
+
+pub waits_at : (n page owner m : ℕ) (t : Turn) → AloneWaits n page owner ≡ stopped_at m t → (t ≡ Waits page owner) × (n ≡ m)
+waits_at n page owner m Moved same = let bad : AloneWaits n page owner ≡ AloneIdle = same in absurd cc
+waits_at n page owner m Finished same = let bad : AloneWaits n page owner ≡ AloneFinished (m + 1) = same in absurd cc
+waits_at n page owner m (Waits at by) same = let its : AloneWaits n page owner ≡ AloneWaits m at by = same in (let t : Waits at by ≡ Waits page owner = cc in t, cc)
+waits_at n page owner m (Again why) same = let bad : AloneWaits n page owner ≡ AloneIdle = same in absurd cc
+waits_at n page owner m Idle same = let bad : AloneWaits n page owner ≡ AloneIdle = same in absurd cc
 
 -- the code counts as many turns
 pub turns-below : (turns : ℕ) → turns < 12 + 3 * MAX_FILE_PAGES → turns < most_turns
@@ -61,10 +83,10 @@ module _ {S D : Type 0} (ss : S → StorageCall → S → Type 0) (ds : D → Di
       (subst (λ p. Does ss ds p m e (h, a) m e) (sym (ap (follows_turn (most_turns - (turns + 1)) turns cpu h) is ∙ stops)) (refl, refl, refl)))
 
   -- no turn is left
-  pub ran_out : (turns cpu : ℕ) (g : GuestState) (s : S) (d : D) → most_turns ≤ turns → Does ss ds (alone_within (most_turns - turns) turns g cpu) s d (g, Idle) s d
+  pub ran_out : (turns cpu : ℕ) (g : GuestState) (s : S) (d : D) → most_turns ≤ turns → Does ss ds (alone_within (most_turns - turns) turns g cpu) s d (g, AloneIdle) s d
   ran_out turns cpu g s d all =
       let left : 0 ≡ most_turns - turns = omega arith in
-      subst (λ n. Does ss ds (alone_within n turns g cpu) s d (g, Idle) s d) left (refl, refl, refl)
+      subst (λ n. Does ss ds (alone_within n turns g cpu) s d (g, AloneIdle) s d) left (refl, refl, refl)
 
 -- the processor is still there after a turn
 pub still_there : (g h : GuestState) (v w : StorageView) (d e : DiskView) (cpu : ℕ) → Fit g v d → Fit h w e → h.plan ≡ g.plan → cpu < length g.processors → cpu < length h.processors

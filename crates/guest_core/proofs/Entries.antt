@@ -16,18 +16,17 @@ use Rattle.guest_pages.specs.PagesView.{info_at}
 use Rattle.guest_maps.specs.MapsView.{entry_at}
 use Rattle.guest_rules.specs.Hint.{can_be_fetched_again, hint}
 use Rattle.guest_rules.specs.GuestState.{GuestState}
-use Rattle.guest_rules.specs.Calls.{CanLoad, CanStore}
+use Rattle.guest_rules.specs.Calls.{CanTake, CanLoad, CanStore}
 use Rattle.guest_rules.specs.Fit.{Fit}
 use Rattle.guest_rules.proofs.Cases.TurnCases.{ShowsPage, Maps}
 use Rattle.guest_rules.proofs.Rows.ValueLaws.{hint-tagged}
 use Rattle.guest_rules.proofs.Kept.EntryLaws.{some_writer}
 use Rattle.guest_rules.proofs.Cases.Reached.{entry_page}
-use Rattle.guest_rules.proofs.Ready.ReadyCalls.{CanBeUsed, entry-usable}
+use Rattle.guest_rules.proofs.Ready.ReadyCalls.{entry-takes}
 use Rattle.guest_core.specs.Between.{Hits}
-use Rattle.guest_core.proofs.Ready.{can_take}
 
-hit-usable : (g : GuestState) (v : StorageView) (d : DiskView) (cpu : ℕ) (op : Op) (page : ℕ) → Fit g v d → Hits g cpu op page → CanBeUsed g v page
-hit-usable g v d cpu op page f hits = entry-usable g v d cpu op hits.writes hits.slot hits.off (record { page = page; writable = hits.writable }) f hits.reaches hits.entry
+hit-takes : (g : GuestState) (v : StorageView) (d : DiskView) (cpu : ℕ) (op : Op) (page : ℕ) → Fit g v d → Hits g cpu op page → CanTake g.parts v page
+hit-takes g v d cpu op page f hits = entry-takes g v d cpu op hits.writes hits.slot hits.off (record { page = page; writable = hits.writable }) f hits.reaches hits.entry
 
 hit-page : (g : GuestState) (v : StorageView) (d : DiskView) (cpu : ℕ) (op : Op) (page : ℕ) → Fit g v d → (hits : Hits g cpu op page) → ShowsPage g hits.reaches.tag page
 hit-page g v d cpu op page f hits = entry_page (flat_of g.plan g.journal) g v d cpu op hits.writes hits.slot hits.off (record { page = page; writable = hits.writable }) f hits.reaches hits.entry
@@ -55,19 +54,19 @@ stored_to info tag tagged some = rw tagged (of (can_be_fetched_again info) (nat_
 hit-used : (g : GuestState) (v : StorageView) (d : DiskView) (cpu : ℕ) (op : Op) (page : ℕ) → Fit g v d → Hits g cpu op page → is_unused (v.values page).usage ≡ false
 hit-used g v d cpu op page f hits =
     let has = hit-page g v d cpu op page f hits in
-    let below = (hit-usable g v d cpu op page f hits).pages_below in
+    let below = (hit-takes g v d cpu op page f hits).there in
     used_unless (v.values page).usage (λ bad. hint-tagged (info_at g.parts.pages page) hits.reaches.tag has.tagged (sym (f.hints.hints page below) ∙ bad))
 
 -- so the page can be loaded from through the entry
 pub hit-loads : (g : GuestState) (v : StorageView) (d : DiskView) (cpu : ℕ) (op : Op) (page : ℕ) → Fit g v d → Hits g cpu op page → CanLoad g.parts v page
-hit-loads g v d cpu op page f hits = record { takes = can_take g v d page f (hit-usable g v d cpu op page f hits); used = hit-used g v d cpu op page f hits }
+hit-loads g v d cpu op page f hits = record { takes = hit-takes g v d cpu op page f hits; used = hit-used g v d cpu op page f hits }
 
 -- and it may be stored to, where a store goes through the entry
 hit-writable : (g : GuestState) (v : StorageView) (d : DiskView) (cpu : ℕ) (op : Op) (page number off : ℕ) (bytes : List ℕ) → Fit g v d → Hits g cpu op page → op ≡ Store number off bytes
     → can_store (v.values page).usage ≡ true
 hit-writable g v d cpu op page number off bytes f hits is =
     let has = hit-page g v d cpu op page f hits in
-    let below = (hit-usable g v d cpu op page f hits).pages_below in
+    let below = (hit-takes g v d cpu op page f hits).there in
     let maps : Maps g cpu (Store number off bytes) hits.writes hits.slot hits.off = subst (λ q. Maps g cpu q hits.writes hits.slot hits.off) is hits.reaches.maps in
     let writable : hits.writable ≡ true = hits.serves maps.0 in
     let entry : entry_at g.parts.maps hits.slot (hits.off / PAGE) ≡ Some (record { page = page; writable = true }) = hits.entry ∙ ap (λ w. Some (record { page = page; writable = w })) writable in
@@ -77,4 +76,4 @@ hit-writable g v d cpu op page number off bytes f hits is =
 pub hit-stores : (g : GuestState) (v : StorageView) (d : DiskView) (cpu : ℕ) (op : Op) (page number off : ℕ) (bytes : List ℕ) → Fit g v d → Hits g cpu op page → op ≡ Store number off bytes
     → CanStore g.parts v page
 hit-stores g v d cpu op page number off bytes f hits is =
-    record { takes = can_take g v d page f (hit-usable g v d cpu op page f hits); writable = hit-writable g v d cpu op page number off bytes f hits is }
+    record { takes = hit-takes g v d cpu op page f hits; writable = hit-writable g v d cpu op page number off bytes f hits is }

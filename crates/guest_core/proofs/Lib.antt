@@ -7,5 +7,4 @@ mod OtherTurns
 mod Spots
 mod Syncs
 mod Teardown
-mod AloneRuns
-pub mod AloneDiscards
+pub mod AloneRuns

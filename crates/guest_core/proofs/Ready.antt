@@ -7,22 +7,13 @@ use Rattle.cmm_io.specs.DiskView.{DiskView}
 use Rattle.cmm_storage.specs.StorageView.{StorageView}
 use Rattle.guest_pages.specs.Laws.PagesLaws.{Contains-first}
 use Rattle.guest_cache.specs.CacheView.{IsTag, page_of}
-use Rattle.guest_rules.specs.declared.processor.Phase.TheVariants.{Fill}
 use Rattle.guest_rules.specs.GuestState.{GuestState, processor_at}
-use Rattle.guest_rules.specs.Calls.{CanTake, CanFill}
+use Rattle.guest_rules.specs.Calls.{CanTake}
 use Rattle.guest_rules.specs.Fit.{Fit, answered_early}
 use Rattle.guest_rules.proofs.Cases.TurnCases.{Starts, Wants}
 use Rattle.guest_rules.proofs.Cases.WantedTags.{is_wanted}
-use Rattle.guest_rules.proofs.Ready.ReadyCalls.{CanBeUsed, found-usable, filling-usable, page-shown, backing-below, journal-room, place-below}
+use Rattle.guest_rules.proofs.Ready.ReadyCalls.{found-takes, journal-room, place-below}
 use Rattle.guest_core.specs.Between.{CanEnter, CanGetTag, IsFit}
-
--- a page that has a tag can be taken
-pub can_take : (g : GuestState) (v : StorageView) (d : DiskView) (page : ℕ) → Fit g v d → CanBeUsed g v page → CanTake g.parts v page
-can_take g v d page f usable = record {
-  in_use = record { below = usable.page_below; shown = page-shown g v d page f usable.page_below; not_free = usable.not_free; tag = usable.tag };
-  there = usable.pages_below;
-  none_held = f.hints.none_held;
-}
 
 -- the tag that a command needs a page of is one
 pub is_tag : (g : GuestState) (v : StorageView) (cpu : ℕ) (op : Op) (tag : Tag) → IsFit g v → Starts g cpu op → Wants g cpu op tag → IsTag g.parts.cache tag
@@ -30,7 +21,7 @@ is_tag g v cpu op tag fit starts wants = (is_wanted (flat_of g.plan g.journal) g
 
 -- its page can be taken
 pub found_takes : (g : GuestState) (v : StorageView) (page : ℕ) (tag : Tag) → IsFit g v → IsTag g.parts.cache tag → page_of g.parts.cache tag ≡ Some page → CanTake g.parts v page
-found_takes g v page tag fit is found = can_take g v fit.0 page fit.1 (found-usable g v fit.0 page tag fit.1 is found)
+found_takes g v page tag fit is found = found-takes g v fit.0 page tag fit.1 is found
 
 -- the next free page is one of the pages
 next_below : (g : GuestState) (v : StorageView) (page : ℕ) (o : Option ℕ) → IsFit g v
@@ -63,7 +54,3 @@ can_enter g v d cpu op f below command early = record {
   room = journal-room g v d cpu op f below command early;
   next = omega (arith, place-below g v d cpu op f command);
 }
-
--- the page that a processor fills can be
-pub can_fill : (g : GuestState) (v : StorageView) (d : DiskView) (cpu page : ℕ) → Fit g v d → (processor_at g cpu).phase ≡ Fill page → CanFill g.parts v d page
-can_fill g v d cpu page f phase = record { takes = can_take g v d page f (filling-usable g v d cpu page f phase); block = backing-below g v d page f }

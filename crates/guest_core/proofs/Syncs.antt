@@ -5,14 +5,13 @@ use Rattle.cmm_types.specs.declared.command.Op.{Op}
 use Rattle.cmm_types.specs.declared.command.Op.TheVariants.{Sync}
 use Rattle.cmm_flat.specs.Legal.{command_of}
 use Rattle.cmm_io.specs.DiskView.{DiskView}
-use Rattle.essa_state.specs.StateWord.{is_unused}
 use Rattle.cmm_storage.specs.StorageView.{StorageView}
 use Rattle.guest_cache.specs.CacheView.{page_of}
 use Rattle.guest_rules.specs.declared.processor.Phase.TheVariants.{Sync as AtSync, SyncWrite}
 use Rattle.guest_rules.specs.GuestState.{GuestState, processor_at}
-use Rattle.guest_rules.specs.Calls.{CanTake, CanWriteBack}
+use Rattle.guest_rules.specs.Calls.{CanTake}
 use Rattle.guest_rules.specs.Fit.{Fit, IsSyncing}
-use Rattle.guest_rules.proofs.Ready.ReadyCalls.{file-few, syncing-tag, writing-usable, writing-stable, backing-below}
+use Rattle.guest_rules.proofs.Ready.ReadyCalls.{file-few, syncing-tag}
 use Rattle.guest_core.specs.Between.{IsFit}
 use Rattle.guest_core.proofs.Ready.{found_takes}
 
@@ -33,16 +32,3 @@ at-sync g v cpu op file index fit command is phase =
 -- a file has few pages
 pub write-next : (g : GuestState) (v : StorageView) (d : DiskView) (cpu index page : ℕ) → Fit g v d → (processor_at g cpu).phase ≡ SyncWrite index page → index + 1 < 2 ^ 32
 write-next g v d cpu index page f phase = let k = f.locks.writing cpu index page phase in omega (arith, k.syncing.within, file-few g v d k.file f)
-
--- the page that a processor writes back can be written
-pub write-writes : (g : GuestState) (v : StorageView) (d : DiskView) (cpu index page : ℕ) → Fit g v d → (processor_at g cpu).phase ≡ SyncWrite index page → CanWriteBack g.parts v d page
-write-writes g v d cpu index page f phase =
-    let usable = writing-usable g v d cpu index page f phase in
-    record {
-      below = usable.page_below;
-      there = usable.pages_below;
-      tag = usable.tag;
-      block = backing-below g v d page f;
-      used = ap is_unused (writing-stable g v d cpu index page f phase);
-      none_held = f.hints.none_held;
-    }

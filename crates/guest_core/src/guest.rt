@@ -16,7 +16,6 @@ ghost use Rattle.guest_rules.specs.Cause.{TurnCause, AloneCause, NoWrongDiscard}
 ghost use Rattle.guest_rules.specs.Again.{WhyAgain};
 ghost use Rattle.guest_rules.specs.Alone.{alone};
 ghost use Rattle.guest_core.specs.Between.{CanEnter, CanGoOn};
-ghost use Rattle.guest_core.specs.AloneDiscards.{TurnsDiscardRightly, moved_before, last_turn};
 
 mod look;
 mod page;
@@ -310,7 +309,6 @@ impl Guest {
         ensures row { Does St.step D.step (alone self.old cpu) st.old disk.old (self.new, result) st.new disk.new }
         ensures fit { Fit self.new (St.view st.new) (D.view disk.new) }
         ensures causes { AloneCause self.old (St.view st.old) (D.view disk.old) cpu result self.new (St.view st.new) (D.view disk.new) }
-        ensures discards { TurnsDiscardRightly (moved_before result) self.old (St.view st.old) (D.view disk.old) cpu (last_turn result) self.new (St.view st.new) (D.view disk.new) }
         ensures plan { self.new.plan ≡ self.old.plan }
     {
         self.run_alone(cpu, st, disk)

@@ -6,6 +6,7 @@ pub mod RoomEnds
 pub mod TurnEnds
 pub mod ShownPins
 pub mod ShownEntries
+pub mod ShownRead
 pub mod ShownWritten
 pub mod Processors
 pub mod CauseForms

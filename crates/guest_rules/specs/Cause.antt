@@ -7,7 +7,7 @@ use Rattle.cmm_types.specs.declared.turn.Alone.TheVariants.{Finished as AloneFin
 use Rattle.cmm_types.specs.declared.page.TheConstants.{PAGE}
 use Rattle.cmm_types.specs.declared.page.Usage.TheVariants.{S}
 use Rattle.cmm_types.specs.declared.page.Tag.{Tag}
-use Rattle.cmm_types.specs.declared.page.Tag.TheVariants.{File}
+use Rattle.cmm_types.specs.declared.page.Tag.TheVariants.{File, Anon}
 use Rattle.cmm_types.specs.declared.command.Op.{Op}
 use Rattle.cmm_types.specs.declared.command.Op.TheVariants.{Read, Write, Sync, MapFile, MapAnon, Unmap, Load, Store, Pin, Unpin}
 use Rattle.cmm_types.specs.declared.command.Reply.{Reply}
@@ -20,7 +20,8 @@ use Rattle.cmm_flat.specs.Flat.{refusal_of}
 use Rattle.cmm_io.specs.Faults.{HasRisen}
 use Rattle.cmm_io.specs.DiskView.{DiskView}
 use Rattle.essa_state.specs.PageValue.{Bytes as BytesOf, is_lost, may_lose}
-use Rattle.cmm_storage.specs.StorageView.{StorageView}
+use Rattle.cmm_storage.specs.StorageView.{StorageView, Misses}
+use Rattle.cmm_storage.specs.Views.{Seen}
 use Rattle.guest_pages.specs.PagesView.{info_at}
 use Rattle.guest_cache.specs.CacheView.{page_of}
 use Rattle.guest_maps.specs.MapsView.{find_slot, slot_at, entry_at, pinned_at, tag_at}
@@ -29,10 +30,11 @@ use Rattle.guest_rules.specs.declared.processor.Phase.TheVariants.{Start, Fill, 
 use Rattle.guest_rules.specs.GuestState.{GuestState, processor_at, with_parts, entered}
 use Rattle.guest_rules.specs.Rows.{dirtied}
 use Rattle.guest_rules.specs.MakeRoom.{first_to_go, first_locked, pinned_count}
+use Rattle.guest_rules.specs.Wanted.{wanted_tag}
 use Rattle.guest_rules.specs.Stuck.{IsStuck, NeedsFreePage}
 use Rattle.guest_rules.specs.Fit.{IsKept, IsUntagged, backing, current}
 use Rattle.guest_rules.specs.Alone.{turns_of}
-use Rattle.guest_rules.specs.Turns.{file_pages, mapping_pages}
+use Rattle.guest_rules.specs.Turns.{file_pages, mapping_pages, turn}
 
 -- the flat machine doesn't refuse the command, in the state that the journal leads to
 abbrev pub IsAccepted : GuestState → (cpu : ℕ) → Op → Type 0
@@ -137,7 +139,7 @@ ShowsDone g cpu (Unpin number index) h w e = IsUnpinned h (process_of g.plan cpu
 
 -- what stands once a command of the processor is answered with bytes
 abbrev pub ShowsBytes : GuestState → (cpu : ℕ) → Op → GuestState → Type 0
-ShowsBytes g cpu (Read file off len) h = Unit {0}
+ShowsBytes g cpu (Read file off len) h = IsKept h.parts (File file (off / PAGE))
 ShowsBytes g cpu (Write file off bytes) h = ⊥
 ShowsBytes g cpu (Sync file) h = ⊥
 ShowsBytes g cpu (MapFile number file first count writable) h = ⊥
@@ -185,6 +187,8 @@ pub record HasTorn (g : GuestState) (cpu slot index : ℕ) (h : GuestState) : Ty
 
 -- an unmap that was answered took off its mapping's last page, and the slot is free: the processor goes on to its next command
 pub record HasTornDown (g : GuestState) (cpu : ℕ) (h : GuestState) : Type 0 where
+  pub number : ℕ
+  pub command : command_of g.plan cpu (processor_at g cpu).place ≡ Some (Unmap number)
   pub slot : ℕ
   pub index : ℕ
   pub torn : HasTorn g cpu slot index h
@@ -258,11 +262,26 @@ pub record RoomMoves (g : GuestState) (cpu : ℕ) (h : GuestState) (w : StorageV
   pub writes : (page : ℕ) (tag : Tag) → (processor_at g cpu).phase ≡ AtRoom page → (info_at g.parts.pages page).tag ≡ Some tag
       → ((processor_at h cpu).phase ≡ Start) × (backing h.parts.cache e tag ≡ current h.parts w e tag)
 
--- the page is locked by that other processor. Where the command needs room, no page can go and it is the first one that is locked
+-- the tag of the page that a turn is at: the one that its command needs, that its sync looks at, or that its unmap takes off
+abbrev pub IsAtTag : GuestState → (cpu : ℕ) → Op → Phase → Tag → Type 0
+IsAtTag g cpu op Start tag = (wanted_tag g.parts (process_of g.plan cpu) op ≡ Some tag) ⊎ ((file : ℕ) × (op ≡ Sync file) × (tag ≡ File file 0))
+IsAtTag g cpu op (Fill page) tag = ⊥
+IsAtTag g cpu op (AtRoom page) tag = ⊥
+IsAtTag g cpu op (AtSync index) tag = (file : ℕ) × (op ≡ Sync file) × (tag ≡ File file index)
+IsAtTag g cpu op (SyncWrite index page) tag = ⊥
+IsAtTag g cpu op (Teardown slot index) tag = tag ≡ Anon slot index
+
+-- the page that a turn is at
+abbrev pub IsAtPage : GuestState → (cpu : ℕ) → Op → (page : ℕ) → Type 0
+IsAtPage g cpu op page = (tag : Tag) × IsAtTag g cpu op (processor_at g cpu).phase tag × (page_of g.parts.cache tag ≡ Some page)
+
+-- the page is locked by that other processor. It is the one that the turn is at; or the command needs room, no page can go, and it is the
+-- first one that is locked
 pub record WaitsFor (g : GuestState) (cpu page owner : ℕ) : Type 0 where
   pub locked : (info_at g.parts.pages page).owner ≡ Some owner
   pub command : (op : Op) × (command_of g.plan cpu (processor_at g cpu).place ≡ Some op)
   pub other : owner ≢ cpu
+  pub its : (op : Op) → command_of g.plan cpu (processor_at g cpu).place ≡ Some op → NeedsFreePage g cpu op ⊎ IsAtPage g cpu op page
   pub room : (op : Op) → NeedsFreePage g cpu op → (g.parts.pages.free ≡ []) × (first_to_go g.parts ≡ None) × (first_locked g.parts ≡ Some page)
 
 -- the turn has to be taken again: neither the journal nor the place and phase changed, and of the tables at most that a page is known to be
@@ -276,7 +295,7 @@ abbrev pub AnswerCause : GuestState → StorageView → DiskView → ℕ → Tur
 AnswerCause g v d cpu Moved h w e = HasMoved g cpu h × SyncMoves g cpu h w e × RoomMoves g cpu h w e × TearMoves g cpu h
 AnswerCause g v d cpu Finished h w e = HasFinished g v d cpu h w e ⊎ HasTornDown g cpu h
 AnswerCause g v d cpu (Waits page owner) h w e = (h ≡ g) × (w ≡ v) × (e ≡ d) × WaitsFor g cpu page owner
-AnswerCause g v d cpu (Again why) h w e = HasToWait g v cpu h × (e ≡ d) × HasRisen v.misses w.misses
+AnswerCause g v d cpu (Again why) h w e = HasToWait g v cpu h × (e ≡ d) × Misses v w
 AnswerCause g v d cpu Idle h w e = (h ≡ g) × (w ≡ v) × (e ≡ d) × (command_of g.plan cpu (processor_at g cpu).place ≡ None)
 
 -- where the flat machine refuses the command that a turn in phase Start looks at, that refusal is entered, and nothing else changes
@@ -300,11 +319,17 @@ abbrev pub NoWrongDiscard : StorageView → StorageView → Type 0
 NoWrongDiscard v w =
     (page : ℕ) → page < v.pages → is_lost (w.values page).contents ≡ true → (is_lost (v.values page).contents ≡ true) ⊎ (may_lose (v.values page).usage (v.values page).changed ≡ true)
 
--- so many turns of a processor moved, one after another, each for its cause
+-- one turn of a processor, by its program: it has its cause, and discards no page wrongly
+pub record WentRightly (g : GuestState) (v : StorageView) (d : DiskView) (cpu : ℕ) (t : Turn) (h : GuestState) (w : StorageView) (e : DiskView) : Type 0 where
+  pub turns : Seen {A = GuestState × Turn} (turn g cpu) v d (h, t) w e
+  pub cause : TurnCause g v d cpu t h w e
+  pub discards : NoWrongDiscard v w
+
+-- so many turns of a processor moved, one after another
 abbrev pub HaveMoved : (turns : ℕ) → GuestState → StorageView → DiskView → (cpu : ℕ) → GuestState → StorageView → DiskView → Type 0
 HaveMoved zero g v d cpu h w e = (h ≡ g) × (w ≡ v) × (e ≡ d)
 HaveMoved (suc turns) g v d cpu h w e =
-    (m : GuestState) × (n : StorageView) × (y : DiskView) × TurnCause g v d cpu Moved m n y × HaveMoved turns m n y cpu h w e
+    (m : GuestState) × (n : StorageView) × (y : DiskView) × WentRightly g v d cpu Moved m n y × HaveMoved turns m n y cpu h w e
 
 -- so many turns moved, and the one behind them answered so
 pub record LastTurn (moved : ℕ) (g : GuestState) (v : StorageView) (d : DiskView) (cpu : ℕ) (t : Turn) (h : GuestState) (w : StorageView) (e : DiskView) : Type 0 where
@@ -312,7 +337,7 @@ pub record LastTurn (moved : ℕ) (g : GuestState) (v : StorageView) (d : DiskVi
   pub storage : StorageView
   pub disk : DiskView
   pub before : HaveMoved moved g v d cpu guest storage disk
-  pub last : TurnCause guest storage disk cpu t h w e
+  pub last : WentRightly guest storage disk cpu t h w e
 
 -- the processor's command may take so many turns
 abbrev pub MayTake : GuestState → (cpu turns : ℕ) → Type 0
@@ -323,4 +348,4 @@ MayTake g cpu turns = (op : Op) → command_of g.plan cpu (processor_at g cpu).p
 abbrev pub AloneCause : GuestState → StorageView → DiskView → ℕ → Alone → GuestState → StorageView → DiskView → Type 0
 AloneCause g v d cpu (AloneFinished turns) h w e = (moved : ℕ) × (turns ≡ moved + 1) × LastTurn moved g v d cpu Finished h w e × MayTake g cpu turns
 AloneCause g v d cpu (AloneWaits turns page owner) h w e = LastTurn turns g v d cpu (Waits page owner) h w e × MayTake g cpu (turns + 1)
-AloneCause g v d cpu AloneIdle h w e = TurnCause g v d cpu Idle h w e
+AloneCause g v d cpu AloneIdle h w e = WentRightly g v d cpu Idle h w e

@@ -10,7 +10,7 @@ use Rattle.cmm_types.specs.declared.page.Tag.TheVariants.{File, Anon as AnonTag}
 use Rattle.cmm_types.specs.declared.plan.TheConstants.{MAX_MAPPING_SLOTS}
 use Rattle.cmm_types.specs.declared.command.TheConstants.{MAX_MAPPING_PAGES}
 use Rattle.cmm_types.specs.declared.command.Op.{Op}
-use Rattle.cmm_types.specs.declared.command.Op.TheVariants.{Read, Write, Sync, MapFile, MapAnon, Unmap, Load, Store, Pin, Unpin}
+use Rattle.cmm_types.specs.declared.command.Op.TheVariants.{Sync, Unmap}
 use Rattle.cmm_types.specs.declared.plan.CpuPlan.{CpuPlan}
 use Rattle.cmm_types.specs.declared.plan.GuestPlan.{GuestPlan}
 use Rattle.cmm_types.specs.InRange.{GuestInRange, blocks_of}
@@ -20,7 +20,7 @@ use Rattle.cmm_flat.specs.declared.mapping.Shown.TheVariants.{OfFile as FlatFile
 use Rattle.cmm_types.specs.Bytes.{bytes_at, zero_page}
 use Rattle.cmm_types.specs.Sums.{sum_below, one_if}
 use Rattle.cmm_flat.specs.State.{FlatState, IsSound, mapping_at, file_at}
-use Rattle.cmm_flat.specs.Legal.{Legal, flat_of, walk_of, start_of, progress_of, command_of, process_of}
+use Rattle.cmm_flat.specs.Legal.{CanNeedPage, Legal, flat_of, walk_of, start_of, progress_of, command_of, process_of}
 pub use Rattle.cmm_flat.specs.Legal.{all_commands}
 use Rattle.cmm_io.specs.DiskView.{DiskView, AreBlocks}
 use Rattle.essa_state.specs.PageValue.{PageValue, Contents, Bytes, Blank, Lost, IsValue, is_lost, is_blank}
@@ -179,24 +179,11 @@ pub record TagsFit (parts : Parts) (v : StorageView) : Type 0 where
       → ((v.values page).changed ≡ true) ⊎ (1 ≤ (info_at parts.pages page).writers)
       → ((info_at parts.pages page).dirty ≡ true) ⊎ IsSome (swap_slot parts.cache (AnonTag slot index))
 
--- a command that needs a page: it reads, writes, loads, stores or pins. One that unpins doesn't, since its page is there
-abbrev pub NeedsPage : Op → Type 0
-NeedsPage (Read file off len) = Unit {0}
-NeedsPage (Write file off bytes) = Unit {0}
-NeedsPage (Sync file) = ⊥
-NeedsPage (MapFile number file first count writable) = ⊥
-NeedsPage (MapAnon number count) = ⊥
-NeedsPage (Unmap number) = ⊥
-NeedsPage (Load number off len) = Unit {0}
-NeedsPage (Store number off bytes) = Unit {0}
-NeedsPage (Pin number index) = Unit {0}
-NeedsPage (Unpin number index) = ⊥
-
 -- a processor that fills a page has a command that needs one
 pub record IsFilling (g : GuestState) (cpu page : ℕ) : Type 0 where
   pub op : Op
   pub command : command_of g.plan cpu (processor_at g cpu).place ≡ Some op
-  pub needs : NeedsPage op
+  pub needs : CanNeedPage op
   pub below : page < length g.parts.pages.infos
   pub owner : (info_at g.parts.pages page).owner ≡ Some cpu
   pub stale : (info_at g.parts.pages page).uptodate ≡ false
@@ -208,7 +195,7 @@ pub record IsPagingOut (g : GuestState) (cpu page : ℕ) : Type 0 where
   pub cpu_below : cpu < length g.processors
   pub op : Op
   pub command : command_of g.plan cpu (processor_at g cpu).place ≡ Some op
-  pub needs : NeedsPage op
+  pub needs : CanNeedPage op
   pub below : page < length g.parts.pages.infos
   pub owner : (info_at g.parts.pages page).owner ≡ Some cpu
   pub uptodate : (info_at g.parts.pages page).uptodate ≡ true

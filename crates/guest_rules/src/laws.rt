@@ -1,7 +1,7 @@
 //! What holds of every guest between its turns. Each law stands on the definitions alone, so that its function does
 //! nothing.
 
-ghost use Rattle.std.specs.Prelude.{◌≡◌, ◌<◌, ℕ, Some, None, true, length};
+ghost use Rattle.std.specs.Prelude.{◌≡◌, ◌<◌, ℕ, [], Some, None, true, length};
 ghost use Rattle.cmm_types.specs.declared.page.Tag.{Tag};
 ghost use Rattle.cmm_types.specs.declared.page.Tag.TheVariants.{Anon};
 ghost use Rattle.cmm_types.specs.declared.plan.GuestPlan.{GuestPlan};
@@ -21,7 +21,7 @@ ghost use Rattle.guest_rules.specs.Alone.{alone};
 ghost use Rattle.guest_rules.specs.Fit.{Fit};
 ghost use Rattle.guest_rules.specs.Meanwhile.{AllMay};
 ghost use Rattle.guest_rules.specs.Failures.{FailuresFit};
-ghost use Rattle.guest_rules.specs.Calls.{CanTear};
+ghost use Rattle.guest_rules.specs.Calls.{CanTake, CanFill, CanWriteBack, CanClear, CanTear, CanMakeRoom};
 ghost use Rattle.guest_rules.specs.Answers.{HasBeenFilled, IsToBeFilled, IsToBeWritten, CanBeWrittenOut};
 
 /// What the host does between two turns of a guest leaves it fit.
@@ -39,11 +39,21 @@ pub fn failed_commands_are_counted()
         → Fit g v d → cpu < length g.processors → Seen {A = GuestState × Alone} (alone g cpu) v d (h, a) w e → FailuresFit g v d → FailuresFit h w e }
 {}
 
-/// What the calls on one page ask of it, to say in words what they leave, stands between any two turns: of a page that is
-/// up to date, which may also be the one that goes to make room, of one that a processor fills, of one that a processor
-/// writes back, for a sync or to make room, of one whose entry an unmap clears, and of one that an unmap takes off a
-/// mapping of pages of its own.
+/// Between any two turns a call on a page can be made: a page that has a tag can be taken, one that a processor fills can
+/// be, one that a processor writes back can be, for a sync or to make room, the entry that an unmap is at can be cleared,
+/// and the page that it is at can be taken off a mapping of pages of its own; where no page is free, room can be made. So
+/// stands what these calls ask further, to say in words what they leave.
 pub fn pages_are_ready_between_turns()
+    ensures takes { (g : GuestState) (v : StorageView) (d : DiskView) (page : ℕ) (tag : Tag) → Fit g v d → (info_at g.parts.pages page).tag ≡ Some tag → CanTake g.parts v page }
+    ensures can_fill { (g : GuestState) (v : StorageView) (d : DiskView) (cpu page : ℕ)
+        → Fit g v d → (processor_at g cpu).phase ≡ Fill page → CanFill g.parts v d page }
+    ensures can_write { (g : GuestState) (v : StorageView) (d : DiskView) (cpu index page : ℕ)
+        → Fit g v d → (processor_at g cpu).phase ≡ SyncWrite index page → CanWriteBack g.parts v d page }
+    ensures can_page_out { (g : GuestState) (v : StorageView) (d : DiskView) (cpu page : ℕ)
+        → Fit g v d → (processor_at g cpu).phase ≡ Room page → CanWriteBack g.parts v d page }
+    ensures can_clear { (g : GuestState) (v : StorageView) (d : DiskView) (cpu slot index : ℕ) (pte : Pte) → Fit g v d
+        → (processor_at g cpu).phase ≡ Teardown slot index → entry_at g.parts.maps slot index ≡ Some pte → CanClear g.parts v slot index pte }
+    ensures can_make_room { (g : GuestState) (v : StorageView) (d : DiskView) → Fit g v d → g.parts.pages.free ≡ [] → CanMakeRoom g.parts v }
     ensures filled { (g : GuestState) (v : StorageView) (d : DiskView) (page : ℕ) (tag : Tag) → Fit g v d → page < length g.parts.pages.infos
         → (info_at g.parts.pages page).tag ≡ Some tag → (info_at g.parts.pages page).uptodate ≡ true → HasBeenFilled g.parts page v }
     ensures fills { (g : GuestState) (v : StorageView) (d : DiskView) (cpu page : ℕ)

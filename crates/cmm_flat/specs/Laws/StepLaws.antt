@@ -1,24 +1,24 @@
--- Laws of the flat step, one for each operation where it isn't refused, and of what is mapped after a change.
-use Rattle.std.proofs.Common.{◌≡◌, ◌≢◌, ◌*◌, not, ℕ, Bool, true, false, cond, List, [], ◌∷◌, length, Some, None, is_some, refl, ap, ◌∙◌}
+-- Laws of the flat step of operations that are not refused, and of what is mapped after a change.
+use Rattle.std.proofs.Common.{◌≡◌, ◌≢◌, ◌*◌, not, ℕ, true, false, cond, List, [], ◌∷◌, length, Some, None, is_some, refl, ap, ◌∙◌}
 use Rattle.std.specs.FinMap as finite
 use Rattle.std.specs.Ordering.{eq_by_cmp, is_eq}
 use Rattle.std.specs.declared.cmp.Ordering.TheVariants.{Less, Equal, Greater}
 use Rattle.std.specs.Cmp.{tied_itself}
 use Rattle.cmm_types.specs.declared.page.TheConstants.{PAGE}
 use Rattle.cmm_types.specs.declared.command.Op.{Op}
-use Rattle.cmm_types.specs.declared.command.Op.TheVariants.{Read, Write, MapFile, MapAnon, Unmap, Load, Store, Pin, Unpin}
+use Rattle.cmm_types.specs.declared.command.Op.TheVariants.{Read, MapAnon, Unmap, Load, Store}
 use Rattle.cmm_types.specs.declared.command.Reply.TheVariants.{Done, Bytes, Refused}
 use Rattle.cmm_types.specs.declared.command.FlatRefusal.{FlatRefusal}
-use Rattle.cmm_types.specs.declared.command.FlatRefusal.TheVariants.{NoMapping, AlreadyMapped, OutOfRange, ReadOnly, Pinned, NotPinned, TooManyMaps}
+use Rattle.cmm_types.specs.declared.command.FlatRefusal.TheVariants.{NoMapping, AlreadyMapped, OutOfRange, ReadOnly, Pinned, TooManyMaps}
 use Rattle.cmm_flat.specs.declared.mapping.MappingKey.{MappingKey}
 use Rattle.cmm_flat.specs.declared.mapping.Mapping.{Mapping}
-use Rattle.cmm_flat.specs.declared.mapping.Shown.TheVariants.{OfFile, Anonymous}
+use Rattle.cmm_flat.specs.declared.mapping.Shown.TheVariants.{Anonymous}
 use Rattle.cmm_types.specs.Bytes.{zeros, bytes_at}
-use Rattle.cmm_flat.specs.Mapping.{key_cmp, shows_writable, with_pin}
+use Rattle.cmm_flat.specs.Mapping.{key_cmp, shows_writable}
 use Rattle.cmm_flat.specs.Laws.KeyLaws.{exact_keys, keys_total}
 use Rattle.cmm_flat.specs.State.{FlatState, key_of, mapping_at, file_at}
-use Rattle.cmm_flat.specs.Flat.{of_live, is_full, in_file, in_mapping, has_page, has_pin, pins_page, first_refusal, refusal_of, loaded}
-use Rattle.cmm_flat.specs.Flat.{with_file_bytes, with_mapping, without_mapping, stored, none_pinned, on_live, effect, unless_refused, flat_step}
+use Rattle.cmm_flat.specs.Flat.{of_live, is_full, in_file, in_mapping, has_pin, first_refusal, refusal_of, loaded}
+use Rattle.cmm_flat.specs.Flat.{with_mapping, without_mapping, stored, none_pinned, on_live, effect, unless_refused, flat_step}
 
 pub mapping_at-with_mapping : (state : FlatState) (process number : ℕ) (mapping : Mapping) → mapping_at (with_mapping state process number mapping) process number ≡ Some mapping
 mapping_at-with_mapping state process number mapping =
@@ -62,16 +62,6 @@ pub step_read : (state : FlatState) (process file off len : ℕ) → in_file sta
     → flat_step state process (Read file off len) ≡ (state, Bytes (bytes_at (file_at state.files file) off len))
 step_read state process file off len within = step_done state process (Read file off len) (ap (λ b. first_refusal ((not b, OutOfRange) ∷ [])) within)
 
-pub step_write : (state : FlatState) (process file off : ℕ) (bytes : List ℕ) → in_file state.files file off (length bytes) ≡ true
-    → flat_step state process (Write file off bytes) ≡ (with_file_bytes state file off bytes, Done)
-step_write state process file off bytes within = step_done state process (Write file off bytes) (ap (λ b. first_refusal ((not b, OutOfRange) ∷ [])) within)
-
-pub step_map_file : (state : FlatState) (process number file first count : ℕ) (writable : Bool) → mapping_at state process number ≡ None
-    → in_file state.files file (PAGE * first) (PAGE * count) ≡ true → is_full state ≡ false
-    → flat_step state process (MapFile number file first count writable) ≡ (with_mapping state process number (record { shown = OfFile file first writable; pins = none_pinned count }), Done)
-step_map_file state process number file first count writable new within room =
-    step_done state process (MapFile number file first count writable) (λ i. first_refusal ((is_some (new i), AlreadyMapped) ∷ (not (within i), OutOfRange) ∷ (room i, TooManyMaps) ∷ []))
-
 pub step_map_anon : (state : FlatState) (process number count : ℕ) → mapping_at state process number ≡ None → is_full state ≡ false
     → flat_step state process (MapAnon number count) ≡ (with_mapping state process number (record { shown = Anonymous (zeros (PAGE * count)); pins = none_pinned count }), Done)
 step_map_anon state process number count new room =
@@ -108,19 +98,3 @@ step_store state process number off bytes mapping at within writable =
     (ap (λ o. first_refusal ((not (is_some o), NoMapping) ∷ (not (of_live (in_mapping off (length bytes)) o), OutOfRange) ∷ (not (of_live (λ m. shows_writable m.shown) o), ReadOnly) ∷ [])) at
     ∙ (λ i. first_refusal ((not (within i), OutOfRange) ∷ (not (writable i), ReadOnly) ∷ [])))
     ∙ ap (λ o. on_live state o (λ (m : Mapping). (stored state process number m m.shown off bytes, Done))) at
-
-pub step_pin : (state : FlatState) (process number page : ℕ) (mapping : Mapping) → mapping_at state process number ≡ Some mapping → has_page page mapping ≡ true → pins_page page mapping ≡ false
-    → flat_step state process (Pin number page) ≡ (with_mapping state process number (with_pin mapping page true), Done)
-step_pin state process number page mapping at within free =
-    step_done state process (Pin number page)
-    (ap (λ o. first_refusal ((not (is_some o), NoMapping) ∷ (not (of_live (has_page page) o), OutOfRange) ∷ (of_live (pins_page page) o, Pinned) ∷ [])) at
-    ∙ (λ i. first_refusal ((not (within i), OutOfRange) ∷ (free i, Pinned) ∷ [])))
-    ∙ ap (λ o. on_live state o (λ (m : Mapping). (with_mapping state process number (with_pin m page true), Done))) at
-
-pub step_unpin : (state : FlatState) (process number page : ℕ) (mapping : Mapping) → mapping_at state process number ≡ Some mapping → has_page page mapping ≡ true → pins_page page mapping ≡ true
-    → flat_step state process (Unpin number page) ≡ (with_mapping state process number (with_pin mapping page false), Done)
-step_unpin state process number page mapping at within pinned =
-    step_done state process (Unpin number page)
-    (ap (λ o. first_refusal ((not (is_some o), NoMapping) ∷ (not (of_live (has_page page) o), OutOfRange) ∷ (not (of_live (pins_page page) o), NotPinned) ∷ [])) at
-    ∙ (λ i. first_refusal ((not (within i), OutOfRange) ∷ (not (pinned i), NotPinned) ∷ [])))
-    ∙ ap (λ o. on_live state o (λ (m : Mapping). (with_mapping state process number (with_pin m page false), Done))) at

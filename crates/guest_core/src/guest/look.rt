@@ -215,15 +215,11 @@ impl Guest {
         ensures row { DoesAlone St.step (start_accepted self.old cpu op.now) st.old (self.new, result) st.new }
     {
         match op {
-            Op::Read { file, off, len: _ } => {
+            Op::Read { file, off, .. } => {
                 let index = *off / PAGE as u32;
                 self.start_tagged(cpu, st, op, Tag::File { file: *file, index })
             }
-            Op::Write {
-                file,
-                off,
-                bytes: _,
-            } => {
+            Op::Write { file, off, .. } => {
                 let index = *off / PAGE as u32;
                 self.start_tagged(cpu, st, op, Tag::File { file: *file, index })
             }
@@ -241,8 +237,8 @@ impl Guest {
                 };
                 self.map_turn(cpu, op, *map, shown, *count)
             }
-            Op::Load { map, off, len: _ } => self.start_mapped(cpu, st, op, false, *map, *off),
-            Op::Store { map, off, bytes: _ } => self.start_mapped(cpu, st, op, true, *map, *off),
+            Op::Load { map, off, .. } => self.start_mapped(cpu, st, op, false, *map, *off),
+            Op::Store { map, off, .. } => self.start_mapped(cpu, st, op, true, *map, *off),
             Op::Pin { map, page } => self.start_placed(cpu, st, op, *map, *page),
             Op::Unpin { map, page } => self.start_placed(cpu, st, op, *map, *page),
             Op::Sync { file } => self.sync_turn(cpu, st, op, *file, 0),

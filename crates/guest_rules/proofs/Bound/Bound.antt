@@ -20,7 +20,7 @@ use Rattle.guest_rules.specs.GuestState.{GuestState, processor_at}
 use Rattle.guest_rules.specs.Turns.{file_pages, mapping_pages, turn}
 use Rattle.guest_rules.specs.Alone.{alone, alone_within, alone_after, found_pages, pages_to_tear, turns_of, most_turns}
 use Rattle.guest_rules.specs.Fit.{Fit}
-use Rattle.guest_rules.specs.Cause.{TurnCause, AloneCause, LastTurn, MayTake, HasMoved}
+use Rattle.guest_rules.specs.Cause.{AloneCause, LastTurn, MayTake, HasMoved, WentRightly}
 use Rattle.guest_rules.proofs.Cases.TurnCases.{TurnCase}
 use Rattle.guest_rules.proofs.Cases.Inversion.{turn_case}
 use Rattle.guest_rules.proofs.Causes.TurnCauses.{turn_causes}
@@ -58,30 +58,30 @@ may_take_next g h cpu turns on few op command =
 abbrev StopsAfter : (turns : ℕ) → GuestState → StorageView → DiskView → ℕ → Alone → GuestState → StorageView → DiskView → Type 0
 StopsAfter turns g v d cpu (AloneFinished all) i w e = (moved : ℕ) × (all ≡ turns + moved + 1) × LastTurn moved g v d cpu Finished i w e × MayTake g cpu all
 StopsAfter turns g v d cpu (AloneWaits all page owner) i w e = (moved : ℕ) × (all ≡ turns + moved) × LastTurn moved g v d cpu (Waits page owner) i w e × MayTake g cpu (all + 1)
-StopsAfter turns g v d cpu AloneIdle i w e = TurnCause g v d cpu Idle i w e
+StopsAfter turns g v d cpu AloneIdle i w e = WentRightly g v d cpu Idle i w e
 
 -- one turn more that moved
-moved_more : (moved : ℕ) (g h i : GuestState) (v m w : StorageView) (d y e : DiskView) (cpu : ℕ) (t : Turn) → TurnCause g v d cpu Moved h m y → LastTurn moved h m y cpu t i w e
+moved_more : (moved : ℕ) (g h i : GuestState) (v m w : StorageView) (d y e : DiskView) (cpu : ℕ) (t : Turn) → WentRightly g v d cpu Moved h m y → LastTurn moved h m y cpu t i w e
     → LastTurn (suc moved) g v d cpu t i w e
-moved_more moved g h i v m w d y e cpu t cause k =
-    record { guest = k.guest; storage = k.storage; disk = k.disk; before = (h, m, y, cause, k.before); last = k.last }
+moved_more moved g h i v m w d y e cpu t one k =
+    record { guest = k.guest; storage = k.storage; disk = k.disk; before = (h, m, y, one, k.before); last = k.last }
 
 one_more : (turns moved all : ℕ) → all ≡ turns + 1 + moved → all ≡ turns + suc moved
 one_more turns moved all h = omega (arith, h)
 
 -- why a processor stopped, seen from before a turn that moved
-stop_before : (turns : ℕ) (g h i : GuestState) (v m w : StorageView) (d y e : DiskView) (cpu : ℕ) (a : Alone) → Onward g cpu h → TurnCause g v d cpu Moved h m y
+stop_before : (turns : ℕ) (g h i : GuestState) (v m w : StorageView) (d y e : DiskView) (cpu : ℕ) (a : Alone) → Onward g cpu h → WentRightly g v d cpu Moved h m y
     → StopsAfter (turns + 1) h m y cpu a i w e → StopsAfter turns g v d cpu a i w e
-stop_before turns g h i v m w d y e cpu (AloneFinished all) on cause (moved, is, k, few) =
-    (suc moved, is ∙ (omega arith), moved_more moved g h i v m w d y e cpu Finished cause k, may_take_before g h cpu all on few)
-stop_before turns g h i v m w d y e cpu (AloneWaits all page owner) on cause (moved, is, k, few) =
-    (suc moved, one_more turns moved all is, moved_more moved g h i v m w d y e cpu (Waits page owner) cause k, may_take_before g h cpu (all + 1) on few)
-stop_before turns g h i v m w d y e cpu AloneIdle on cause k =
-    let bad : None ≡ Some on.moved.command.0 = sym k.answer.3 ∙ command_before g h cpu on ∙ on.moved.command.1 in absurd cc
+stop_before turns g h i v m w d y e cpu (AloneFinished all) on one (moved, is, k, few) =
+    (suc moved, is ∙ (omega arith), moved_more moved g h i v m w d y e cpu Finished one k, may_take_before g h cpu all on few)
+stop_before turns g h i v m w d y e cpu (AloneWaits all page owner) on one (moved, is, k, few) =
+    (suc moved, one_more turns moved all is, moved_more moved g h i v m w d y e cpu (Waits page owner) one k, may_take_before g h cpu (all + 1) on few)
+stop_before turns g h i v m w d y e cpu AloneIdle on one k =
+    let bad : None ≡ Some on.moved.command.0 = sym k.cause.answer.3 ∙ command_before g h cpu on ∙ on.moved.command.1 in absurd cc
 
 -- the first turn is the last
-at_once : (g i : GuestState) (v w : StorageView) (d e : DiskView) (cpu : ℕ) (t : Turn) → TurnCause g v d cpu t i w e → LastTurn 0 g v d cpu t i w e
-at_once g i v w d e cpu t cause = record { guest = g; storage = v; disk = d; before = (refl, refl, refl); last = cause }
+at_once : (g i : GuestState) (v w : StorageView) (d e : DiskView) (cpu : ℕ) (t : Turn) → WentRightly g v d cpu t i w e → LastTurn 0 g v d cpu t i w e
+at_once g i v w d e cpu t one = record { guest = g; storage = v; disk = d; before = (refl, refl, refl); last = one }
 
 few_now : (g : GuestState) (cpu turns left : ℕ) → MayTake g cpu (turns + suc left) → MayTake g cpu (turns + 1)
 few_now g cpu turns left few op command = fewer turns left (turns_of g cpu op) (few op command)
@@ -91,26 +91,26 @@ few_now g cpu turns left few op command = fewer turns left (turns_of g cpu op) (
 
 -- what follows a turn
 after_turn : (g h i : GuestState) (v m w : StorageView) (d y e : DiskView) (cpu fuel left turns : ℕ) (t : Turn) (a : Alone) → Fit g v d → v.quiet ≡ true
-    → TurnCase g cpu v d h t m y → TurnCause g v d cpu t h m y → Rank g v cpu (suc left) → MayTake g cpu (turns + suc left)
+    → TurnCase g cpu v d h t m y → WentRightly g v d cpu t h m y → Rank g v cpu (suc left) → MayTake g cpu (turns + suc left)
     → (Rank h m cpu left → MayTake h cpu (turns + suc left) → Seen {A = GuestState × Alone} (alone_within fuel (turns + 1) h cpu) m y (i, a) w e → StopsAfter (turns + 1) h m y cpu a i w e)
     → Seen {A = GuestState × Alone} (alone_after (λ q. alone_within fuel (turns + 1) q cpu) turns h t) m y (i, a) w e → StopsAfter turns g v d cpu a i w e
-after_turn g h i v m w d y e cpu fuel left turns Moved a f quiet case cause rank few next run =
+after_turn g h i v m w d y e cpu fuel left turns Moved a f quiet case one rank few next run =
     let plan = (turn_summary g v m d y cpu h Moved case).plan in
-    let on : Onward g cpu h = record { moved = cause.answer.0; plan = plan; turns = λ op command. turns_kept g v m d y cpu op h f command plan case } in
-    stop_before turns g h i v m w d y e cpu a on cause (next (rank_step g v m d y cpu left h f quiet case rank) (may_take_next g h cpu (turns + suc left) on few) run)
-after_turn g h i v m w d y e cpu fuel left turns Finished a f quiet case cause rank few next (ea, em, ed) =
+    let on : Onward g cpu h = record { moved = one.cause.answer.0; plan = plan; turns = λ op command. turns_kept g v m d y cpu op h f command plan case } in
+    stop_before turns g h i v m w d y e cpu a on one (next (rank_step g v m d y cpu left h f quiet case rank) (may_take_next g h cpu (turns + suc left) on few) run)
+after_turn g h i v m w d y e cpu fuel left turns Finished a f quiet case one rank few next (ea, em, ed) =
     let ei : i ≡ h = ap (λ q. q.0) ea in
     let er : a ≡ AloneFinished (turns + 1) = ap (λ q. q.1) ea in
-    rw er (rw (ei, em, ed) (0, omega arith, at_once g h v m d y cpu Finished cause, few_now g cpu turns left few))
-after_turn g h i v m w d y e cpu fuel left turns (Waits page owner) a f quiet case cause rank few next (ea, em, ed) =
+    rw er (rw (ei, em, ed) (0, omega arith, at_once g h v m d y cpu Finished one, few_now g cpu turns left few))
+after_turn g h i v m w d y e cpu fuel left turns (Waits page owner) a f quiet case one rank few next (ea, em, ed) =
     let ei : i ≡ h = ap (λ q. q.0) ea in
     let er : a ≡ AloneWaits turns page owner = ap (λ q. q.1) ea in
-    rw er (rw (ei, em, ed) (0, omega arith, at_once g h v m d y cpu (Waits page owner) cause, few_now g cpu turns left few))
-after_turn g h i v m w d y e cpu fuel left turns (Again why) a f quiet case cause rank few next run = absurd (never_again g v m d y cpu h why quiet case)
-after_turn g h i v m w d y e cpu fuel left turns Idle a f quiet case cause rank few next (ea, em, ed) =
+    rw er (rw (ei, em, ed) (0, omega arith, at_once g h v m d y cpu (Waits page owner) one, few_now g cpu turns left few))
+after_turn g h i v m w d y e cpu fuel left turns (Again why) a f quiet case one rank few next run = absurd (never_again g v m d y cpu h why quiet case)
+after_turn g h i v m w d y e cpu fuel left turns Idle a f quiet case one rank few next (ea, em, ed) =
     let ei : i ≡ h = ap (λ q. q.0) ea in
     let er : a ≡ AloneIdle = ap (λ q. q.1) ea in
-    rw er (rw (ei, em, ed) cause)
+    rw er (rw (ei, em, ed) one)
 
 one_later : (turns left most : ℕ) → turns + suc left ≤ most → turns + 1 + left ≤ most
 one_later turns left most h = omega (arith, h)
@@ -174,10 +174,11 @@ stops_within keep (suc fuel) (suc left) turns g i v w d e cpu a f quiet below ra
     let kept = seen-keeps (turn g cpu) v d x.answer x.storage x.disk x.first in
     let case = turn_case _ g v x.storage d x.disk cpu x.answer.0 x.answer.1 f below x.first in
     let f' = keep g v x.storage d x.disk cpu x.answer.0 x.answer.1 f below x.first in
-    let plan = (turn_summary g v x.storage d x.disk cpu x.answer.0 x.answer.1 case).plan in
-    let size : length x.answer.0.processors ≡ length g.processors = f'.sizes.processors ∙ ap (λ q. length q.cpus) plan ∙ sym f.sizes.processors in
-    after_turn g x.answer.0 i v x.storage w d x.disk e cpu fuel left turns x.answer.1 a f quiet case
-    (turn_causes g v x.storage d x.disk cpu x.answer.0 x.answer.1 f below x.first case) rank few
+    let summary = turn_summary g v x.storage d x.disk cpu x.answer.0 x.answer.1 case in
+    let one : WentRightly g v d cpu x.answer.1 x.answer.0 x.storage x.disk =
+    record { turns = x.first; cause = turn_causes g v x.storage d x.disk cpu x.answer.0 x.answer.1 f below x.first case; discards = summary.discards } in
+    let size : length x.answer.0.processors ≡ length g.processors = f'.sizes.processors ∙ ap (λ q. length q.cpus) summary.plan ∙ sym f.sizes.processors in
+    after_turn g x.answer.0 i v x.storage w d x.disk e cpu fuel left turns x.answer.1 a f quiet case one rank few
     (λ rank' few' run'. stops_within keep fuel left (turns + 1) x.answer.0 i x.storage w x.disk e cpu a f' (kept.quiet ∙ quiet) (rw size below) rank' (omega (arith, enough))
     (λ op command. let most = few' op command in one_later turns left (turns_of x.answer.0 cpu op) most) run')
     x.second

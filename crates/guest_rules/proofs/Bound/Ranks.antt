@@ -5,7 +5,7 @@ use Rattle.cmm_types.specs.declared.page.TheConstants.{PAGE}
 use Rattle.cmm_types.specs.declared.page.Tag.{Tag}
 use Rattle.cmm_types.specs.declared.command.Op.{Op}
 use Rattle.cmm_types.specs.declared.command.Op.TheVariants.{Read, Write, Sync, MapFile, MapAnon, Unmap, Load, Store, Pin, Unpin}
-use Rattle.cmm_flat.specs.Legal.{command_of, process_of}
+use Rattle.cmm_flat.specs.Legal.{command_of, process_of, CanNeedPage}
 use Rattle.essa_state.specs.PageValue.{is_lost}
 use Rattle.cmm_storage.specs.StorageView.{StorageView}
 use Rattle.guest_pages.specs.PagesView.{info_at}
@@ -19,7 +19,7 @@ use Rattle.guest_rules.specs.Turns.{file_pages, mapping_pages}
 use Rattle.guest_rules.specs.Syncs.{cleaned}
 use Rattle.guest_rules.specs.MakeRoom.{first_to_go}
 use Rattle.guest_rules.specs.Stuck.{NeedsFreePage}
-use Rattle.guest_rules.specs.Fit.{LocksFit, TeardownsFit, NeedsPage}
+use Rattle.guest_rules.specs.Fit.{LocksFit, TeardownsFit}
 use Rattle.guest_rules.specs.Alone.{pages_to_tear, turns_of}
 use Rattle.guest_rules.proofs.Causes.SyncPhases.{LooksAt, looks-index, looks_not_fills, looks_not_writes, looks_not_pages_out}
 use Rattle.guest_rules.proofs.Cases.TurnCases.{Wants, Maps, CanBeSet, wanted_tag}
@@ -37,7 +37,7 @@ IsShort (Store number off bytes) = Unit {0}
 IsShort (Pin number index) = Unit {0}
 IsShort (Unpin number index) = Unit {0}
 
-pub needs-short : (op : Op) → NeedsPage op → IsShort op
+pub needs-short : (op : Op) → CanNeedPage op → IsShort op
 needs-short (Sync file) needs = absurd needs
 needs-short (Unmap number) needs = absurd needs
 needs-short op needs = tt

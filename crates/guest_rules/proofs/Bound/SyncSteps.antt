@@ -56,7 +56,7 @@ locked_rank g v w cpu file index page left after k rank =
 pub sync_step : (g : GuestState) (v w : StorageView) (d e : DiskView) (cpu file index left : ℕ) (h : GuestState) → Fit g v d → SyncCase g cpu file index v d h Moved w e → Rank g v cpu (suc left)
     → Rank h w cpu left
 sync_step g v w d e cpu file index left h f (not_there k none passes ew ee) rank = look_rank g v w cpu file index left g.parts h k rank passes
-sync_step g v w d e cpu file index left h f (sync_waited page owner k locked eh et ew ee) rank = absurd (cc et)
+sync_step g v w d e cpu file index left h f (sync_waited page owner k found locked eh et ew ee) rank = absurd (cc et)
 sync_step g v w d e cpu file index left h f (sync_missed why k eh et may misses ee) rank = absurd (cc et)
 sync_step g v w d e cpu file index left h f (sync_gone page found k has back may lost unused passes) rank = look_rank g v w cpu file index left (handled g.parts page) h k rank passes
 sync_step g v w d e cpu file index left h f (was_clean page found k has back may told unchanged clean passes) rank = look_rank g v w cpu file index left g.parts h k rank passes
@@ -74,7 +74,7 @@ passes_not_again g cpu file index after h why (is_done last eh et) = cc et
 
 pub sync_never_again : (g : GuestState) (v w : StorageView) (d e : DiskView) (cpu file index : ℕ) (h : GuestState) (why : Why) → v.quiet ≡ true → SyncCase g cpu file index v d h (Again why) w e → ⊥
 sync_never_again g v w d e cpu file index h why quiet (not_there k none passes ew ee) = passes_not_again g cpu file index g.parts h why (has_passed g cpu file index g.parts h (Again why) passes)
-sync_never_again g v w d e cpu file index h why quiet (sync_waited page owner k locked eh et ew ee) = cc et
+sync_never_again g v w d e cpu file index h why quiet (sync_waited page owner k found locked eh et ew ee) = cc et
 sync_never_again g v w d e cpu file index h why quiet (sync_missed why' k eh et may misses ee) = let bad : true ≡ false = sym quiet ∙ misses.not_quiet in cc
 sync_never_again g v w d e cpu file index h why quiet (sync_gone page found k has back may lost unused passes) =
     passes_not_again g cpu file index _ h why (has_passed g cpu file index (handled g.parts page) h (Again why) passes)

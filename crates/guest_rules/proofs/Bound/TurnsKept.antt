@@ -43,7 +43,7 @@ module _ (g : GuestState) (cpu number : ℕ) where
   -- so no turn of it is one of a sync's, nor is one to make room
   unmap_no_sync : (v w : StorageView) (d e : DiskView) (file index : ℕ) (h : GuestState) → Unmaps g cpu number → SyncCase g cpu file index v d h Moved w e → ⊥
   unmap_no_sync v w d e file index h command (not_there k none passes ew ee) = not_syncing file command k.has
-  unmap_no_sync v w d e file index h command (sync_waited page owner k locked eh et ew ee) = cc et
+  unmap_no_sync v w d e file index h command (sync_waited page owner k found locked eh et ew ee) = cc et
   unmap_no_sync v w d e file index h command (sync_missed why k eh et may misses ee) = cc et
   unmap_no_sync v w d e file index h command (sync_gone page found k has back may lost unused passes) = not_syncing file command k.has
   unmap_no_sync v w d e file index h command (was_clean page found k has back may told unchanged clean passes) = not_syncing file command k.has

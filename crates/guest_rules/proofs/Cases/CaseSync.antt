@@ -53,7 +53,7 @@ case_sync_owned : (state : FlatState) (g : GuestState) (v m w : StorageView) (d 
 case_sync_owned state g v m w d y e cpu file index page (Some owner) parts r h t f k is found locked (ea, em, ed) run =
     let stays : Seen {A = GuestState × Turn} (sync_next g cpu (Sync file) (file_pages g.plan.files file) index page parts (IsLocked owner)) m y (h, t) w e =
     subst (λ q. Seen {A = GuestState × Turn} (sync_next g cpu (Sync file) (file_pages g.plan.files file) index page parts q) m y (h, t) w e) (ap (λ q. q.1) ea) run in
-    sync_waited page owner k locked (ap (λ q. q.0) stays.0 ∙ ap (λ q. with_parts g q.0) ea) (ap (λ q. q.1) stays.0) (stays.1 ∙ em) (stays.2 ∙ ed)
+    sync_waited page owner k found locked (ap (λ q. q.0) stays.0 ∙ ap (λ q. with_parts g q.0) ea) (ap (λ q. q.1) stays.0) (stays.1 ∙ em) (stays.2 ∙ ed)
 case_sync_owned state g v m w d y e cpu file index page None parts r h t f k is found unlocked first run =
     let has = found_page state g v d page (File file index) f is found unlocked in
     let o = seen_look g.parts page cpu v d parts r m y has.below (can_be_used state g v d page (File file index) f has) first in

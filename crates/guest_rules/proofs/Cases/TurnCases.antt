@@ -13,7 +13,7 @@ use Rattle.cmm_types.specs.declared.command.FlatRefusal.{FlatRefusal}
 use Rattle.cmm_types.specs.declared.turn.Turn.{Turn}
 use Rattle.cmm_types.specs.declared.turn.Turn.TheVariants.{Moved, Finished, Waits, Again, Idle}
 use Rattle.cmm_types.specs.declared.turn.Why.{Why}
-use Rattle.cmm_flat.specs.Legal.{command_of, process_of}
+use Rattle.cmm_flat.specs.Legal.{command_of, process_of, CanNeedPage}
 use Rattle.cmm_io.specs.Faults.{HasRisen}
 use Rattle.cmm_io.specs.DiskView.{DiskView, with_block}
 use Rattle.essa_state.specs.PageValue.{PageValue, Bytes, IsMadeUnused, MayBecome, made_stable, is_lost}
@@ -31,7 +31,7 @@ use Rattle.guest_rules.specs.Hint.{hint}
 use Rattle.guest_rules.specs.Rows.{handled, freed, filled, dirtied, with_change, mapped, unmapped, released, pinned}
 use Rattle.guest_rules.specs.GuestState.{GuestState, processor_at, with_parts, with_phase, entered, answered}
 use Rattle.guest_rules.specs.Turns.{refusal_in, begun, file_pages, mapping_pages, passed, torn_past}
-use Rattle.guest_rules.specs.Fit.{NeedsPage, IsTearing, backing}
+use Rattle.guest_rules.specs.Fit.{IsTearing, backing}
 pub use Rattle.guest_rules.specs.Meanwhile.{AllMay}
 pub use Rattle.guest_rules.specs.Wanted.{found_tag, wanted_tag}
 use Rattle.guest_rules.specs.Syncs.{locked, unlocked, cleaned}
@@ -136,7 +136,8 @@ pub data SyncCase (g : GuestState) (cpu file index : ℕ) (v : StorageView) (d :
   -- no page has the tag
   not_there : Syncs g cpu file index → page_of g.parts.cache (File file index) ≡ None → Passes g cpu file index g.parts h t → w ≡ v → e ≡ d → SyncCase g cpu file index v d h t w e
   -- the page is locked
-  sync_waited : (page owner : ℕ) → Syncs g cpu file index → (info_at g.parts.pages page).owner ≡ Some owner → h ≡ g → t ≡ Waits page owner → w ≡ v → e ≡ d → SyncCase g cpu file index v d h t w e
+  sync_waited : (page owner : ℕ) → Syncs g cpu file index → page_of g.parts.cache (File file index) ≡ Some page → (info_at g.parts.pages page).owner ≡ Some owner
+      → h ≡ g → t ≡ Waits page owner → w ≡ v → e ≡ d → SyncCase g cpu file index v d h t w e
   -- the page was busy
   sync_missed : (why : Why) → Syncs g cpu file index → h ≡ g → t ≡ Again why → AllMay v d w e → Misses v w → e ≡ d → SyncCase g cpu file index v d h t w e
   -- the page had been discarded
@@ -306,7 +307,7 @@ pub data TurnCase (g : GuestState) (cpu : ℕ) (v : StorageView) (d : DiskView) 
       → w.values page ≡ record found { usage = S; changed = false; contents = Bytes (with_bytes all (off % PAGE) bytes) }
       → h ≡ entered (with_parts g (dirtied g.parts page)) cpu (Write file off bytes) Done → t ≡ Finished → TurnCase g cpu v d h t w e
   -- the pager failed as the bytes were to be read or written
-  touch_failed : (op : Op) (tag : Tag) (page : ℕ) (found : PageValue) (after : Parts) → NeedsPage op → Starts g cpu op → Wants g cpu op tag → HasPage g tag page
+  touch_failed : (op : Op) (tag : Tag) (page : ℕ) (found : PageValue) (after : Parts) → CanNeedPage op → Starts g cpu op → Wants g cpu op tag → HasPage g tag page
       → GivenBack page v d w e → MayBecome (v.values page) found → IsRehinted g.parts page found after (w.values page)
       → h ≡ entered (with_parts g after) cpu op (Fail Paging) → t ≡ Finished → HasRisen v.faults w.faults → TurnCase g cpu v d h t w e
   -- the entry of a load or store was set

@@ -8,14 +8,14 @@ use Rattle.cmm_types.specs.declared.command.Reply.TheVariants.{Fail}
 use Rattle.cmm_types.specs.declared.command.Cause.{Cause}
 use Rattle.cmm_types.specs.declared.command.Cause.TheVariants.{Disk, Paging, NoPage}
 use Rattle.cmm_types.specs.declared.turn.Turn.TheVariants.{Finished}
-use Rattle.cmm_flat.specs.Legal.{command_of}
+use Rattle.cmm_flat.specs.Legal.{command_of, CanNeedPage}
 use Rattle.cmm_io.specs.DiskView.{DiskView}
 use Rattle.cmm_storage.specs.StorageView.{StorageView}
 use Rattle.guest_rules.specs.declared.parts.Parts.{Parts}
 use Rattle.guest_rules.specs.declared.processor.Phase.{Phase}
 use Rattle.guest_rules.specs.declared.processor.Phase.TheVariants.{Fill, Room as AtRoom}
 use Rattle.guest_rules.specs.GuestState.{GuestState, processor_at, with_parts, with_phase, entered}
-use Rattle.guest_rules.specs.Fit.{Fit, NeedsPage}
+use Rattle.guest_rules.specs.Fit.{Fit}
 use Rattle.guest_rules.specs.Cause.{AnswerCause, HasMoved, HasShown, SyncLeads, SyncMoves, ReplyCause}
 use Rattle.guest_rules.specs.Answers.{FailCause}
 use Rattle.guest_rules.proofs.Cases.TurnCases.{Has}
@@ -78,33 +78,34 @@ others_move g cpu op h w e has other file command =
     let same : op ≡ Sync file = cc in
     absurd (other file same)
 
--- a processor that has a command that needs a page has no other
-needing_page : (g : GuestState) (cpu : ℕ) (op needing : Op) → Has g cpu op → command_of g.plan cpu (processor_at g cpu).place ≡ Some needing → NeedsPage needing → NeedsPage op
-needing_page g cpu op needing has command needs =
-    let both : Some needing ≡ Some op = sym command ∙ has.command in
-    let same : needing ≡ op = cc in
-    subst NeedsPage same needs
+-- a processor has one command
+pub one_command : (g : GuestState) (cpu : ℕ) (op other : Op) → Has g cpu op → command_of g.plan cpu (processor_at g cpu).place ≡ Some other → op ≡ other
+one_command g cpu op other has command = let both : Some op ≡ Some other = sym has.command ∙ command in cc
+
+-- so one that has a command that needs a page has no other
+needing_page : (g : GuestState) (cpu : ℕ) (op needing : Op) → Has g cpu op → command_of g.plan cpu (processor_at g cpu).place ≡ Some needing → CanNeedPage needing → CanNeedPage op
+needing_page g cpu op needing has command needs = subst CanNeedPage (sym (one_command g cpu op needing has command)) needs
 
 -- g the guest, v its storage, d its disk, cpu the processor, op its command, page the page
 module _ (g : GuestState) (v : StorageView) (d : DiskView) (cpu : ℕ) (op : Op) (page : ℕ) where
   -- as one that fills a page
-  pub fills_needing : Fit g v d → Has g cpu op → (processor_at g cpu).phase ≡ Fill page → NeedsPage op
+  pub fills_needing : Fit g v d → Has g cpu op → (processor_at g cpu).phase ≡ Fill page → CanNeedPage op
   fills_needing f has phase = let k = (f.locks.filling cpu page phase).1 in needing_page g cpu op k.op has k.command k.needs
 
   -- and one that writes a page back to make room
-  pages_out_needing : Fit g v d → Has g cpu op → (processor_at g cpu).phase ≡ AtRoom page → NeedsPage op
+  pages_out_needing : Fit g v d → Has g cpu op → (processor_at g cpu).phase ≡ AtRoom page → CanNeedPage op
   pages_out_needing f has phase = let k = f.locks.paging_out cpu page phase in needing_page g cpu op k.op has k.command k.needs
 
   -- so neither has a sync
   pub fills_for_other : Fit g v d → Has g cpu op → (processor_at g cpu).phase ≡ Fill page → (file : ℕ) → op ≡ Sync file → ⊥
-  fills_for_other f has phase file is = subst NeedsPage is (fills_needing f has phase)
+  fills_for_other f has phase file is = subst CanNeedPage is (fills_needing f has phase)
 
   pub pages_out_for_other : Fit g v d → Has g cpu op → (processor_at g cpu).phase ≡ AtRoom page → (file : ℕ) → op ≡ Sync file → ⊥
-  pages_out_for_other f has phase file is = subst NeedsPage is (pages_out_needing f has phase)
+  pages_out_for_other f has phase file is = subst CanNeedPage is (pages_out_needing f has phase)
 
   -- nor an unmap
   pub fills_no_unmap : Fit g v d → Has g cpu op → (processor_at g cpu).phase ≡ Fill page → (number : ℕ) → op ≡ Unmap number → ⊥
-  fills_no_unmap f has phase number is = subst NeedsPage is (fills_needing f has phase)
+  fills_no_unmap f has phase number is = subst CanNeedPage is (fills_needing f has phase)
 
   pub pages_out_no_unmap : Fit g v d → Has g cpu op → (processor_at g cpu).phase ≡ AtRoom page → (number : ℕ) → op ≡ Unmap number → ⊥
-  pages_out_no_unmap f has phase number is = subst NeedsPage is (pages_out_needing f has phase)
+  pages_out_no_unmap f has phase number is = subst CanNeedPage is (pages_out_needing f has phase)

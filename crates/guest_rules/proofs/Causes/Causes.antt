@@ -1,24 +1,24 @@
 -- Why a turn answered as it did, from its case.
 use Rattle.std.specs.Prelude.{◌≡◌, ◌⊎◌, ℕ, Bool, true, false, Some, None}
-use Rattle.std.proofs.Common.{sym, ap, inl, inr, ◌∙◌}
+use Rattle.std.proofs.Common.{sym, ap, subst, inl, inr, ◌∙◌}
 use Rattle.cmm_types.specs.declared.page.Tag.{Tag}
 use Rattle.cmm_types.specs.declared.command.Op.{Op}
 use Rattle.cmm_types.specs.declared.command.Op.TheVariants.{Read, Write, MapFile, MapAnon, Load, Store}
 use Rattle.cmm_types.specs.declared.command.Reply.TheVariants.{Done, Refused, Fail}
 use Rattle.cmm_types.specs.declared.command.Cause.TheVariants.{Paging}
 use Rattle.cmm_types.specs.declared.turn.Turn.{Turn}
-use Rattle.cmm_flat.specs.Legal.{flat_of, process_of}
+use Rattle.cmm_flat.specs.Legal.{command_of, flat_of, process_of}
 use Rattle.cmm_io.specs.DiskView.{DiskView}
 use Rattle.essa_state.specs.PageValue.{PageValue, MayBecome, is_lost}
 use Rattle.cmm_storage.specs.StorageView.{StorageView}
 use Rattle.guest_cache.specs.CacheView.{page_of}
 use Rattle.guest_rules.specs.declared.parts.Parts.{Parts}
 use Rattle.guest_rules.specs.declared.processor.Phase.TheVariants.{Start, Fill}
-use Rattle.guest_rules.specs.GuestState.{GuestState, with_parts}
+use Rattle.guest_rules.specs.GuestState.{GuestState, processor_at, with_parts}
 use Rattle.guest_rules.specs.Rows.{with_change, dirtied}
 use Rattle.guest_rules.specs.Stuck.{NeedsFreePage}
 use Rattle.guest_rules.specs.Fit.{Fit}
-use Rattle.guest_rules.specs.Cause.{AnswerCause, IsAccepted}
+use Rattle.guest_rules.specs.Cause.{AnswerCause, IsAccepted, IsAtPage, IsAtTag}
 use Rattle.guest_rules.proofs.Cases.TurnCases.{TurnCase, was_idle, was_refused, was_mapped, was_mapped_own, waited, missed, missed_rehinted, was_begun, was_gone}
 use Rattle.guest_rules.proofs.Cases.TurnCases.{was_read, was_written, touch_failed, was_resolved, was_loaded, was_stored, entry_failed, fill_failed, was_filled}
 use Rattle.guest_rules.proofs.Cases.TurnCases.{was_pinned, pin_op, was_sync, was_room, was_unmapped, was_torn, was_torn_own, Has, Starts, HasPage, HasItsTag, wanted_tag}
@@ -26,10 +26,11 @@ use Rattle.guest_rules.proofs.Rows.Values.{may_used}
 use Rattle.guest_rules.proofs.Ready.Ready.{can_be_used}
 use Rattle.guest_rules.proofs.Bound.Ranks.{wants_not_sync, wants_not_unmap}
 use Rattle.guest_rules.proofs.Fit.Replies.{refused-same}
+use Rattle.guest_rules.proofs.Causes.ShownRead.{shows_read}
 use Rattle.guest_rules.proofs.Causes.ShownWritten.{shows_written}
 use Rattle.guest_rules.proofs.Causes.ShownPins.{shows_pinned}
 use Rattle.guest_rules.proofs.Kept.LocksKept.{locks_none}
-use Rattle.guest_rules.proofs.Causes.CauseForms.{moved_parts, moved_phase, phase_after, finished, fill_cause, others_move, fills_for_other, fills_no_unmap}
+use Rattle.guest_rules.proofs.Causes.CauseForms.{moved_parts, moved_phase, phase_after, finished, fill_cause, others_move, one_command, fills_for_other, fills_no_unmap}
 use Rattle.guest_rules.proofs.Causes.RoomMoves.{no_room, starts_again}
 use Rattle.guest_rules.proofs.Causes.RoomCauses.{room_causes}
 use Rattle.guest_rules.proofs.Causes.SyncCauses.{sync_causes}
@@ -58,11 +59,18 @@ accepted g v d cpu op f starts = refused-same g v d cpu op f starts.has ∙ star
 -- a command whose page is there needs no free one
 has_its_page : (g : GuestState) (cpu : ℕ) (op needing : Op) (page : ℕ) → Has g cpu op → HasItsTag g cpu op page → NeedsFreePage g cpu needing → ⊥
 has_its_page g cpu op needing page has its needs =
-    let both : Some op ≡ Some needing = sym has.command ∙ needs.command in
-    let same : op ≡ needing = cc in
+    let same = one_command g cpu op needing has needs.command in
     let tags : Some its.tag ≡ Some needs.tag = sym its.wants ∙ ap (wanted_tag g.parts (process_of g.plan cpu)) same ∙ needs.wants in
     let tag : its.tag ≡ needs.tag = cc in
     let bad : Some page ≡ None = sym its.found ∙ ap (page_of g.parts.cache) tag ∙ needs.none in cc
+
+-- it is the one that its turn is at
+wants_its_page : (g : GuestState) (cpu : ℕ) (op other : Op) (page : ℕ) → Starts g cpu op → HasItsTag g cpu op page → command_of g.plan cpu (processor_at g cpu).place ≡ Some other
+    → IsAtPage g cpu other page
+wants_its_page g cpu op other page starts its command =
+    let same = one_command g cpu op other starts.has command in
+    let wants : wanted_tag g.parts (process_of g.plan cpu) other ≡ Some its.tag = ap (wanted_tag g.parts (process_of g.plan cpu)) (sym same) ∙ its.wants in
+    (its.tag, subst (λ p. IsAtTag g cpu other p its.tag) (sym starts.start) (inl wants), its.found)
 
 -- every turn answers for a cause
 pub answer_causes : (g : GuestState) (v w : StorageView) (d e : DiskView) (cpu : ℕ) (h : GuestState) (t : Turn) → Fit g v d → TurnCase g cpu v d h t w e → AnswerCause g v d cpu t h w e
@@ -82,15 +90,16 @@ answer_causes g v w d e cpu h t f (waited op page owner starts its locked eh et 
         locked = locked;
         command = (op, starts.has.command);
         other = λ same. locks_none g cpu Start starts.start tt page (f.locks.locked cpu page (locked ∙ ap Some same));
+        its = λ other command. inr (wants_its_page g cpu op other page starts its command);
         room = λ needing needs. absurd (has_its_page g cpu op needing page starts.has its needs);
       },
     )
-answer_causes g v w d e cpu h t f (missed op why has eh et may misses ee) = rw et (record { tables = inl eh; command = (op, has.command) }, ee, misses.risen)
+answer_causes g v w d e cpu h t f (missed op why has eh et may misses ee) = rw et (record { tables = inl eh; command = (op, has.command) }, ee, misses)
 answer_causes g v w d e cpu h t f (missed_rehinted why op tag page found after starts wants has eh et back may told misses ee) =
     rw et (
       record { tables = told_again g v page found.changed after h (found_changed g v d page tag found f has may told.there) eh told.tables; command = (op, starts.has.command) },
       ee,
-      misses.risen,
+      misses,
     )
 answer_causes g v w d e cpu h t f (was_begun op tag page rest found starts wants none free eh et back may value) =
     rw et (
@@ -107,7 +116,8 @@ answer_causes g v w d e cpu h t f (was_gone op tag page found starts wants has e
       stays_at_start g h cpu op _ starts (λ number is. wants_not_unmap g cpu op tag number wants is) eh,
     )
 answer_causes g v w d e cpu h t f (was_read file off len page found all after starts has back may are told eh et) =
-    rw et (finished g v w d e cpu (Read file off len) after _ h starts.has eh (accepted g v d cpu (Read file off len) f starts) tt)
+    rw et (finished g v w d e cpu (Read file off len) after _ h starts.has eh (accepted g v d cpu (Read file off len) f starts)
+    (shows_read _ g v w d cpu file off len page found _ after f has told))
 answer_causes g v w d e cpu h t f (was_written file off bytes page found all starts has back may are value eh et) =
     rw et (finished g v w d e cpu (Write file off bytes) (dirtied g.parts page) Done h starts.has eh (accepted g v d cpu (Write file off bytes) f starts)
     (shows_written _ g v w d e cpu file off bytes page found all f starts has may are value))

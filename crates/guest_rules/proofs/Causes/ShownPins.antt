@@ -27,7 +27,7 @@ use Rattle.guest_rules.proofs.Kept.PinsKept.{tag-same}
 use Rattle.guest_rules.proofs.Bound.WantedKept.{found_same}
 
 -- a page that was found changed is as up to date as it was
-uptodate-changed : (parts : Parts) (page : ℕ) (changed : Bool) (info : PageInfo) → InfoChange parts.pages (with_change parts page changed).pages page (changed_info changed info)
+pub uptodate-changed : (parts : Parts) (page : ℕ) (changed : Bool) (info : PageInfo) → InfoChange parts.pages (with_change parts page changed).pages page (changed_info changed info)
     → (info_at (with_change parts page changed).pages page).uptodate ≡ info.uptodate
 uptodate-changed parts page true info c = ap (λ (i : PageInfo). i.uptodate) c.here
 uptodate-changed parts page false info c = ap (λ (i : PageInfo). i.uptodate) c.here

@@ -73,7 +73,7 @@ module _ (g : GuestState) (v w : StorageView) (d e : DiskView) (cpu : ℕ) (h : 
   sync_summary : (file index : ℕ) → SyncCase g cpu file index v d h t w e → TurnSummary g h v w
   unfolding with_phase entered
   sync_summary file index (not_there k none passes ew ee) = record { plan = plan_passed g cpu file index _ h t (has_passed g cpu file index g.parts h t passes); discards = same_pages v w ew }
-  sync_summary file index (sync_waited page owner k locked eh et ew ee) = record { plan = ap (λ q. q.plan) eh; discards = same_pages v w ew }
+  sync_summary file index (sync_waited page owner k found locked eh et ew ee) = record { plan = ap (λ q. q.plan) eh; discards = same_pages v w ew }
   sync_summary file index (sync_missed why k eh et may misses ee) = record { plan = ap (λ q. q.plan) eh; discards = all_pages v w d e may }
   sync_summary file index (sync_gone page found k has back may lost unused passes) =
       record { plan = plan_passed g cpu file index _ h t (has_passed g cpu file index (handled g.parts page) h t passes); discards = but_one page v w d e back (unused_kept _ _ unused) }

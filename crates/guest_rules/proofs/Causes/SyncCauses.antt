@@ -1,5 +1,5 @@
 -- Why a sync's turn answered as it did, from its case.
-use Rattle.std.proofs.Common.{◌≡◌, List, ◌<◌, ◌≤◌, ◌+◌, ℕ, length, Bool, true, Some, None, if◌then◌else◌, sym, ap, subst, inl, ◌∙◌, arith}
+use Rattle.std.proofs.Common.{◌≡◌, List, ◌<◌, ◌≤◌, ◌+◌, ℕ, length, Bool, true, Some, None, if◌then◌else◌, sym, ap, subst, inl, inr, ◌∙◌, arith}
 use Rattle.std.proofs.lemmas.Bool.{lt-ltb}
 use Rattle.cmm_types.specs.declared.page.Tag.TheVariants.{File}
 use Rattle.cmm_types.specs.declared.command.Op.{Op}
@@ -7,12 +7,13 @@ use Rattle.cmm_types.specs.declared.command.Op.TheVariants.{Sync, Unmap}
 use Rattle.cmm_types.specs.declared.command.Reply.TheVariants.{Done, Fail}
 use Rattle.cmm_types.specs.declared.command.FlatRefusal.TheVariants.{OutOfRange}
 use Rattle.cmm_types.specs.declared.turn.Turn.{Turn}
-use Rattle.cmm_flat.specs.Legal.{flat_of}
+use Rattle.cmm_flat.specs.Legal.{command_of, flat_of}
 use Rattle.cmm_io.specs.DiskView.{DiskView}
 use Rattle.essa_state.specs.PageValue.{Bytes}
 use Rattle.cmm_storage.specs.StorageView.{StorageView}
 use Rattle.guest_pages.specs.declared.info.PageInfo.{PageInfo}
 use Rattle.guest_pages.specs.PagesView.{info_at}
+use Rattle.guest_cache.specs.CacheView.{page_of}
 use Rattle.guest_rules.specs.declared.parts.Parts.{Parts}
 use Rattle.guest_rules.specs.declared.processor.Phase.TheVariants.{Sync as AtSync, SyncWrite}
 use Rattle.guest_rules.specs.GuestState.{GuestState, processor_at, with_parts, with_phase, entered}
@@ -21,7 +22,7 @@ use Rattle.guest_rules.specs.Syncs.{locked, cleaned}
 use Rattle.guest_rules.specs.Turns.{file_pages}
 use Rattle.guest_rules.specs.Stuck.{NeedsFreePage}
 use Rattle.guest_rules.specs.Fit.{Fit}
-use Rattle.guest_rules.specs.Cause.{AnswerCause, IsAccepted, IsLastSynced, SyncMoves, index_of}
+use Rattle.guest_rules.specs.Cause.{AnswerCause, IsAccepted, IsAtPage, IsAtTag, IsLastSynced, SyncMoves, index_of}
 use Rattle.guest_rules.proofs.Cases.TurnCases.{SyncCase, not_there, sync_waited, sync_missed, sync_gone, was_clean, was_locked}
 use Rattle.guest_rules.proofs.Cases.TurnCases.{write_missed, was_written_back, write_failed, Has, HasPage, Syncs, WritesBack, WrittenBack, IsRehinted}
 use Rattle.guest_rules.proofs.Kept.Changes.{InfoChange}
@@ -30,7 +31,7 @@ use Rattle.guest_rules.proofs.Fit.StepTold.{is_changed}
 use Rattle.guest_rules.proofs.Kept.SyncTables.{locked_info, change-locked}
 use Rattle.guest_rules.proofs.Cases.FileSizes.{file-there}
 use Rattle.guest_rules.proofs.Fit.Replies.{refused-same}
-use Rattle.guest_rules.proofs.Causes.SyncPhases.{looks-index, looks-looking, looks_unlocked}
+use Rattle.guest_rules.proofs.Causes.SyncPhases.{looks-index, looks-looking, looks_unlocked, looks-tag}
 use Rattle.guest_rules.proofs.Cases.Passed.{HasPassed, goes_on, is_done, has_passed}
 use Rattle.guest_rules.proofs.Kept.Tables.{page_of-handled}
 use Rattle.guest_rules.proofs.Ready.Ready.{writing-has}
@@ -38,7 +39,7 @@ use Rattle.guest_rules.proofs.Bound.Ranks.{wants_not_sync}
 use Rattle.guest_rules.proofs.Causes.RoomMoves.{syncs_on}
 use Rattle.guest_rules.proofs.Causes.TearMoves.{moves_on}
 use Rattle.guest_rules.proofs.Causes.PagesSynced.{SyncedAt, synced_none, synced_clean, synced_written}
-use Rattle.guest_rules.proofs.Causes.CauseForms.{moved_phase, finished, fill_cause, phase_after, sync_moves}
+use Rattle.guest_rules.proofs.Causes.CauseForms.{moved_phase, finished, fill_cause, phase_after, sync_moves, one_command}
 
 -- the sync passes a page of its file that is synced
 record PassesPage (g : GuestState) (cpu file index : ℕ) (after : Parts) (w : StorageView) (e : DiskView) : Type 0 where
@@ -145,11 +146,18 @@ sync_needs_none g cpu file op has needs =
     let same : op ≡ Sync file = cc in
     wants_not_sync g cpu op needs.tag file needs.wants same
 
+-- the page that it looks at is the one that its turn is at
+looks_at_page : (g : GuestState) (cpu file index page : ℕ) (op : Op) → Syncs g cpu file index → page_of g.parts.cache (File file index) ≡ Some page
+    → command_of g.plan cpu (processor_at g cpu).place ≡ Some op → IsAtPage g cpu op page
+looks_at_page g cpu file index page op k found command =
+    let same = one_command g cpu (Sync file) op k.has command in
+    (File file index, subst (λ q. IsAtTag g cpu q (processor_at g cpu).phase (File file index)) same (looks-tag g cpu index file k.looks), found)
+
 pub sync_causes : (g : GuestState) (v w : StorageView) (d e : DiskView) (cpu file index : ℕ) (h : GuestState) (t : Turn) → Fit g v d → SyncCase g cpu file index v d h t w e
     → AnswerCause g v d cpu t h w e
 sync_causes g v w d e cpu file index h t f (not_there k none passes ew ee) =
     passed_causes g w e cpu file index v d g.parts h t f (look_passes g w e cpu file index g.parts k (synced_none g.parts w e (File file index) none)) (has_passed g cpu file index g.parts h t passes)
-sync_causes g v w d e cpu file index h t f (sync_waited page owner k locked eh et ew ee) =
+sync_causes g v w d e cpu file index h t f (sync_waited page owner k found locked eh et ew ee) =
     rw et (
       eh,
       ew,
@@ -158,10 +166,11 @@ sync_causes g v w d e cpu file index h t f (sync_waited page owner k locked eh e
         locked = locked;
         command = (Sync file, k.has.command);
         other = λ same. looks_unlocked g cpu index page k.looks (f.locks.locked cpu page (locked ∙ ap Some same));
+        its = λ op command. inr (looks_at_page g cpu file index page op k found command);
         room = λ op needs. absurd (sync_needs_none g cpu file op k.has needs);
       },
     )
-sync_causes g v w d e cpu file index h t f (sync_missed why k eh et may misses ee) = rw et (record { tables = inl eh; command = (Sync file, k.has.command) }, ee, misses.risen)
+sync_causes g v w d e cpu file index h t f (sync_missed why k eh et may misses ee) = rw et (record { tables = inl eh; command = (Sync file, k.has.command) }, ee, misses)
 sync_causes g v w d e cpu file index h t f (sync_gone page found k has back may lost unused passes) =
     let after = handled g.parts page in
     passed_causes g w e cpu file index v d after h t f (look_passes g w e cpu file index after k
@@ -177,7 +186,7 @@ sync_causes g v w d e cpu file index h t f (was_locked page found k has back may
       syncs_on g h v w d e cpu file _ (SyncWrite index page) f k.has eh tt,
       moves_on g h cpu (Sync file) _ (SyncWrite index page) k.has (no_unmap file) eh tt,
     )
-sync_causes g v w d e cpu file index h t f (write_missed page why k eh et may misses ee) = rw et (record { tables = inl eh; command = (Sync file, k.has.command) }, ee, misses.risen)
+sync_causes g v w d e cpu file index h t f (write_missed page why k eh et may misses ee) = rw et (record { tables = inl eh; command = (Sync file, k.has.command) }, ee, misses)
 sync_causes g v w d e cpu file index h t f (was_written_back page bytes after k are written told passes) =
     passed_causes g w e cpu file index v d after h t f (written_passes g w e cpu file index v d page bytes after f k are written told) (has_passed g cpu file index after h t passes)
 sync_causes g v w d e cpu file index h t f (write_failed page cause after k back told why eh et) =

@@ -1,9 +1,11 @@
 -- Where a sync is: it looks at a page of its file, or writes one back.
-use Rattle.std.proofs.Common.{◌≡◌, ◌⊎◌, ℕ, sym, ap, subst, inl, inr, ◌∙◌}
+use Rattle.std.proofs.Common.{◌≡◌, ◌⊎◌, ℕ, refl, sym, ap, subst, inl, inr, ◌∙◌}
+use Rattle.cmm_types.specs.declared.page.Tag.TheVariants.{File}
+use Rattle.cmm_types.specs.declared.command.Op.TheVariants.{Sync}
 use Rattle.guest_rules.specs.declared.processor.Phase.TheVariants.{Start, Fill, Room as AtRoom, Sync as AtSync, SyncWrite}
 use Rattle.guest_rules.specs.GuestState.{GuestState, processor_at}
 use Rattle.guest_rules.specs.Fit.{HasLocked}
-use Rattle.guest_rules.specs.Cause.{index_of, IsLooking}
+use Rattle.guest_rules.specs.Cause.{index_of, IsLooking, IsAtTag}
 
 -- the processor's sync looks at page `index` of its file; a sync begins with page 0
 abbrev pub LooksAt : GuestState → (cpu index : ℕ) → Type 0
@@ -37,3 +39,10 @@ module _ (g : GuestState) (cpu index : ℕ) where
   pub looks-looking : LooksAt g cpu index → IsLooking (processor_at g cpu).phase
   looks-looking (inl (start, first)) = subst IsLooking (sym start) tt
   looks-looking (inr at) = subst IsLooking (sym at) tt
+
+  -- the tag that its turn is at is that of the file's page
+  pub looks-tag : (file : ℕ) → LooksAt g cpu index → IsAtTag g cpu (Sync file) (processor_at g cpu).phase (File file index)
+  looks-tag file (inl (start, first)) =
+      let tag : File file index ≡ File file 0 = ap (λ n. File file n) first in
+      subst (λ p. IsAtTag g cpu (Sync file) p (File file index)) (sym start) (inr (file, refl, tag))
+  looks-tag file (inr at) = subst (λ p. IsAtTag g cpu (Sync file) p (File file index)) (sym at) (file, refl, refl)

@@ -1,5 +1,6 @@
 -- Why a turn that answered an unmap, or that took a page off a mapping, answered as it did, from its case.
 use Rattle.std.proofs.Common.{◌≡◌, ◌<◌, ◌≤◌, ◌+◌, ℕ, length, get_or, Some, None, refl, sym, ap, subst, inl, inr, ◌∙◌}
+use Rattle.cmm_types.specs.declared.page.Tag.TheVariants.{Anon}
 use Rattle.cmm_types.specs.declared.command.Op.{Op}
 use Rattle.cmm_types.specs.declared.command.Op.TheVariants.{Sync, Unmap}
 use Rattle.cmm_types.specs.declared.command.Reply.TheVariants.{Done}
@@ -17,7 +18,7 @@ use Rattle.guest_rules.specs.GuestState.{GuestState, processor_at, with_parts, w
 use Rattle.guest_rules.specs.Rows.{handled, freed, released}
 use Rattle.guest_rules.specs.Turns.{mapping_pages}
 use Rattle.guest_rules.specs.Fit.{Fit, IsUntagged}
-use Rattle.guest_rules.specs.Cause.{AnswerCause, HasUnmapped, HasTorn, HasTornDown, TearLeads}
+use Rattle.guest_rules.specs.Cause.{AnswerCause, HasUnmapped, HasTorn, HasTornDown, IsAtTag, TearLeads}
 use Rattle.guest_rules.proofs.Cases.TurnCases.{TearCase, had_no_entry, tear_missed, tear_gone, was_cleared_at, TearOwnCase}
 use Rattle.guest_rules.proofs.Cases.TurnCases.{had_no_page_of_its, tear_waited, tear_own_missed, was_torn_off, Has, Starts, Tears, TearsFile, TearsOwn}
 use Rattle.guest_rules.proofs.Cases.TornPast.{tears_on, has_ended}
@@ -124,6 +125,8 @@ module _ (g h : GuestState) (cpu slot index : ℕ) (after : Parts) where
       let maps = ap (λ (q : GuestState). q.parts.maps) eh in
       let below : slot < length after.maps.slots = rw taken.slots (slot-below g.parts.maps slot k.tearing.mapping k.tearing.at) in
       record {
+        number = k.tearing.number;
+        command = k.tearing.command;
         slot = slot;
         index = index;
         torn = has_torn (freed_slot after.maps slot) k taken
@@ -143,7 +146,7 @@ pub tear_causes : (g : GuestState) (v w : StorageView) (d e : DiskView) (cpu slo
 tear_causes g v w d e cpu slot index h t f its (had_no_entry k none passes ew ee) =
     torn_past_causes g h cpu slot index g.parts v w d e t k (taken-none g v d cpu slot index f its k none) (is_past g cpu slot index g.parts h t passes)
 tear_causes g v w d e cpu slot index h t f its (tear_missed why k eh et may misses ee) =
-    rw et (record { tables = inl eh; command = (Unmap k.tearing.number, k.tearing.command) }, ee, misses.risen)
+    rw et (record { tables = inl eh; command = (Unmap k.tearing.number, k.tearing.command) }, ee, misses)
 tear_causes g v w d e cpu slot index h t f its (tear_gone tag pte found k entry has back may lost unused passes) =
     let after = handled g.parts pte.page in
     torn_past_causes g h cpu slot index after v w d e t k (taken-handled g v w d e cpu slot index tag pte found f its k entry has back may lost unused) (is_past g cpu slot index after h t passes)
@@ -154,6 +157,10 @@ tear_causes g v w d e cpu slot index h t f its (was_cleared_at tag pte found aft
 
 not_at_start : (g : GuestState) (cpu slot index : ℕ) → (processor_at g cpu).phase ≡ Teardown slot index → (processor_at g cpu).phase ≡ Start → ⊥
 not_at_start g cpu slot index phase start = let bad : Teardown slot index ≡ Start = sym phase ∙ start in cc
+
+-- the tag that its turn is at is that of the page that it takes off
+tears-tag : (g : GuestState) (cpu slot index : ℕ) (op : Op) → (processor_at g cpu).phase ≡ Teardown slot index → IsAtTag g cpu op (processor_at g cpu).phase (Anon slot index)
+tears-tag g cpu slot index op phase = subst (λ p. IsAtTag g cpu op p (Anon slot index)) (sym phase) refl
 
 pub tear_own_causes : (g : GuestState) (v w : StorageView) (d e : DiskView) (cpu slot index : ℕ) (h : GuestState) (t : Turn) → Fit g v d → TearsOwn g slot
     → TearOwnCase g cpu slot index v d h t w e → AnswerCause g v d cpu t h w e
@@ -169,11 +176,12 @@ tear_own_causes g v w d e cpu slot index h t f its (tear_waited page owner k fou
         locked = locked;
         command = (Unmap k.tearing.number, k.tearing.command);
         other = λ same. locks_none g cpu (Teardown slot index) k.phase tt page (f.locks.locked cpu page (locked ∙ ap Some same));
+        its = λ op command. inr (Anon slot index, tears-tag g cpu slot index op k.phase, found);
         room = λ needing needs. absurd (not_at_start g cpu slot index k.phase needs.start);
       },
     )
 tear_own_causes g v w d e cpu slot index h t f its (tear_own_missed why k eh et may misses ee) =
-    rw et (record { tables = inl eh; command = (Unmap k.tearing.number, k.tearing.command) }, ee, misses.risen)
+    rw et (record { tables = inl eh; command = (Unmap k.tearing.number, k.tearing.command) }, ee, misses)
 tear_own_causes g v w d e cpu slot index h t f its (was_torn_off page found k has back may unused passes) =
     let after = released (freed g.parts page) slot index in
     torn_past_causes g h cpu slot index after v w d e t k (taken-torn_off g v w d e cpu slot index page found f k its has back may unused) (is_past g cpu slot index after h t passes)

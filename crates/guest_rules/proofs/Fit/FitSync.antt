@@ -45,7 +45,7 @@ pub Fit-sync : (g : GuestState) (v : StorageView) (d : DiskView) (h : GuestState
 unfolding with_phase
 Fit-sync g v d h w e cpu file index t f (not_there s none passes ew ee) =
     rw (ew, ee) (Fit-passed g v d h cpu file index t f (syncs-at g cpu file index s) (syncs-none g cpu file index s) (has_passed g cpu file index g.parts h t passes))
-Fit-sync g v d h w e cpu file index t f (sync_waited page owner s locked eh et ew ee) = rw (eh, ew, ee) f
+Fit-sync g v d h w e cpu file index t f (sync_waited page owner s found locked eh et ew ee) = rw (eh, ew, ee) f
 Fit-sync g v d h w e cpu file index t f (sync_missed why s eh et may risen ee) = rw eh (FitAt-may (flat_of g.plan g.journal) g v d w e f may)
 Fit-sync g v d h w e cpu file index t f (sync_gone page found s has back may lost unused passes) =
     Fit-passed (with_parts g (handled g.parts page)) w e h cpu file index t (Fit-gone (flat_of g.plan g.journal) g v d w e (File file index) page found f has back may lost unused)

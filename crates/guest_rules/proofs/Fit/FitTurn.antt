@@ -7,14 +7,14 @@ use Rattle.cmm_types.specs.declared.command.Cause.{Cause}
 use Rattle.cmm_types.specs.declared.command.Cause.TheVariants.{Paging}
 use Rattle.cmm_types.specs.declared.turn.Turn.{Turn}
 use Rattle.cmm_io.specs.DiskView.{DiskView}
-use Rattle.cmm_flat.specs.Legal.{flat_of}
+use Rattle.cmm_flat.specs.Legal.{flat_of, CanNeedPage}
 use Rattle.essa_state.specs.PageValue.{IsMadeUnused}
 use Rattle.cmm_storage.specs.StorageView.{StorageView}
 use Rattle.guest_rules.specs.declared.processor.Phase.TheVariants.{Start, Fill}
 use Rattle.guest_rules.specs.GuestState.{GuestState, processor_at, with_parts, with_phase, entered}
 use Rattle.guest_rules.specs.Rows.{freed}
 use Rattle.guest_rules.specs.Turns.{begun}
-use Rattle.guest_rules.specs.Fit.{Fit, NeedsPage}
+use Rattle.guest_rules.specs.Fit.{Fit}
 use Rattle.guest_rules.specs.Answers.{FailCause}
 use Rattle.guest_rules.proofs.Cases.TurnCases.{GivenBack, Has, Maps, TurnCase, was_idle, was_refused, was_mapped, waited, missed, missed_rehinted, was_begun, was_gone, was_read, was_written}
 use Rattle.guest_rules.proofs.Cases.TurnCases.{touch_failed, was_resolved, was_loaded, was_stored, entry_failed, fill_failed, was_filled, was_pinned, was_sync, was_room, was_mapped_own, was_unmapped}
@@ -49,10 +49,10 @@ Fit-fill_failed g v d w e cpu op page cause f has phase back unused risen =
     let same : k.op ≡ op = cc in
     subst (λ (q : GuestState). Fit q w e) (entered-start now cpu op (Fail cause) has.below)
     (Fit-failed (with_phase now cpu Start) v d w e w e cpu op cause (Fit-given_up (flat_of g.plan g.journal) g v d w e cpu page f has.below phase back unused)
-    (start-has now cpu op (record { below = has.below; command = has.command })) (subst NeedsPage same k.needs) (start-phase now cpu has.below) risen)
+    (start-has now cpu op (record { below = has.below; command = has.command })) (subst CanNeedPage same k.needs) (start-phase now cpu has.below) risen)
 
 -- a command that goes through a mapping needs a page
-through-needs : (g : GuestState) (cpu : ℕ) (op : Op) (writes : Bool) (slot off : ℕ) → Maps g cpu op writes slot off → NeedsPage op
+through-needs : (g : GuestState) (cpu : ℕ) (op : Op) (writes : Bool) (slot off : ℕ) → Maps g cpu op writes slot off → CanNeedPage op
 through-needs g cpu (Load number at len) writes slot off maps = tt
 through-needs g cpu (Store number at bytes) writes slot off maps = tt
 through-needs g cpu op writes slot off maps = absurd maps

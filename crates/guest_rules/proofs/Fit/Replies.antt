@@ -14,7 +14,7 @@ use Rattle.cmm_types.specs.Bytes.{bytes_at}
 use Rattle.cmm_flat.specs.State.{FlatState, file_at}
 use Rattle.cmm_flat.specs.Flat.{flat_step, refusal_of}
 use Rattle.cmm_flat.specs.Laws.StepLaws.{step_done, step_refused}
-use Rattle.cmm_flat.specs.Legal.{IsReply, CanFail, process_of, flat_of, flat_after}
+use Rattle.cmm_flat.specs.Legal.{IsReply, CanFail, process_of, flat_of, flat_after, CanNeedPage}
 use Rattle.cmm_flat.specs.Laws.LegalLaws.{IsReply-from_step, flat_after-from_step}
 use Rattle.essa_state.specs.PageValue.{PageValue, Bytes, MayBecome}
 use Rattle.cmm_storage.specs.StorageView.{StorageView}
@@ -22,7 +22,7 @@ use Rattle.guest_rules.specs.declared.parts.Parts.{Parts}
 use Rattle.guest_rules.specs.declared.processor.Phase.TheVariants.{Start}
 use Rattle.guest_rules.specs.GuestState.{GuestState, processor_at, with_parts, entered}
 use Rattle.guest_rules.specs.Turns.{refusal_in}
-use Rattle.guest_rules.specs.Fit.{FitAt, Fit, NeedsPage}
+use Rattle.guest_rules.specs.Fit.{FitAt, Fit}
 use Rattle.guest_rules.specs.Answers.{FailCause}
 use Rattle.guest_rules.proofs.Cases.TurnCases.{Has, Starts, HasPage, GivenBack, IsRehinted}
 use Rattle.guest_rules.proofs.Fit.FitEntered.{walk_at, Fit-entered}
@@ -76,7 +76,7 @@ Fit-read g v d w e cpu file off len page found all after f starts has back may a
         ∙ page-bytes (file_at flat.files file) off len (read-piece g v d cpu file off len f.sizes starts.has).within_page
 
 -- a command that needs a page may fail by the disk or the pager
-needs-fails : (op : Op) → NeedsPage op → CanFail op
+needs-fails : (op : Op) → CanNeedPage op → CanFail op
 needs-fails (Read file off len) needs = tt
 needs-fails (Write file off bytes) needs = tt
 needs-fails (Load number off len) needs = tt
@@ -96,6 +96,6 @@ pub Fit-fails : (g : GuestState) (v : StorageView) (d : DiskView) (w : StorageVi
 Fit-fails g v d w e x y cpu op cause f has can start risen = Fit-entered g w e cpu op (Fail cause) f has.below start has.command (failing g cpu op v d x y cause can risen)
 
 pub Fit-failed : (g : GuestState) (v : StorageView) (d : DiskView) (w : StorageView) (e : DiskView) (x : StorageView) (y : DiskView) (cpu : ℕ) (op : Op) (cause : Cause) → Fit g w e → Has g cpu op
-    → NeedsPage op
+    → CanNeedPage op
     → (processor_at g cpu).phase ≡ Start → FailCause cause v d x y → Fit (entered g cpu op (Fail cause)) w e
 Fit-failed g v d w e x y cpu op cause f has needs start risen = Fit-fails g v d w e x y cpu op cause f has (needs-fails op needs) start risen

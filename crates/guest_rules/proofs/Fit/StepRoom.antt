@@ -5,7 +5,6 @@ use Rattle.cmm_types.specs.declared.page.Usage.{Usage}
 use Rattle.cmm_types.specs.declared.page.Usage.TheVariants.{S}
 use Rattle.cmm_types.specs.declared.page.Tag.{Tag}
 use Rattle.cmm_types.specs.declared.command.Op.{Op}
-use Rattle.cmm_types.specs.declared.command.Op.TheVariants.{Read, Write, Load, Store, Pin}
 use Rattle.cmm_types.specs.declared.command.Reply.TheVariants.{Fail}
 use Rattle.cmm_types.specs.declared.command.Cause.TheVariants.{NoPage}
 use Rattle.cmm_flat.specs.State.{FlatState}
@@ -22,7 +21,7 @@ use Rattle.guest_rules.specs.GuestState.{GuestState, first_processor, processor_
 use Rattle.guest_rules.specs.Rows.{with_change}
 use Rattle.guest_rules.specs.Syncs.{locked}
 use Rattle.guest_rules.specs.MakeRoom.{can_go, first_to_go, first_locked, pinned_count, with_swap_slot, locked_to_go}
-use Rattle.guest_rules.specs.Fit.{NeedsPage, LocksFit, FitAt, Fit}
+use Rattle.guest_rules.specs.Fit.{LocksFit, FitAt, Fit}
 use Rattle.guest_rules.proofs.Cases.TurnCases.{GivenBack, SeeksRoom, Goes, PagesOut}
 use Rattle.guest_rules.proofs.Cases.FirstPage.{first_from-Some, can_go-parts}
 use Rattle.guest_rules.proofs.Cases.Stuck.{full-tagged, stuck}
@@ -49,7 +48,7 @@ pub goes-unpinned : (g : GuestState) (tag : Tag) (page : ℕ) → Goes g tag pag
 goes-unpinned g tag page goes = (can_go-parts g.parts (info_at g.parts.pages page) (first_from-Some g.parts (can_go g.parts) page goes.first).passes).unpinned
 
 -- a command for which room is made needs a page
-pub seeks-needs : (state : FlatState) (g : GuestState) (v : StorageView) (d : DiskView) (cpu : ℕ) (op : Op) → FitAt state g v d → SeeksRoom g cpu op → NeedsPage op
+pub seeks-needs : (state : FlatState) (g : GuestState) (v : StorageView) (d : DiskView) (cpu : ℕ) (op : Op) → FitAt state g v d → SeeksRoom g cpu op → CanNeedPage op
 seeks-needs state g v d cpu op f k = begun-needs state g v d cpu op k.tag f k.starts k.wants k.none
 
 was_dirty : (parts : Parts) (page : ℕ) (changed : Bool) → (info_at (with_change parts page changed).pages page).dirty ≡ true → (changed || (info_at parts.pages page).dirty) ≡ true
@@ -149,29 +148,20 @@ pages_out-holds g cpu op tag page f k =
     record { cpu_below = k.has.below; mine = inr (inr k.phase); shows = record { below = is.below; tagged = k.tagged; uptodate = is.uptodate } }
 
 -- its command needs a page
-pub pages_out-needs : (g : GuestState) (cpu : ℕ) (op : Op) (tag : Tag) (page : ℕ) → LocksFit g → PagesOut g cpu op tag page → NeedsPage op
+pub pages_out-needs : (g : GuestState) (cpu : ℕ) (op : Op) (tag : Tag) (page : ℕ) → LocksFit g → PagesOut g cpu op tag page → CanNeedPage op
 pages_out-needs g cpu op tag page f k =
     let is = f.paging_out cpu page k.phase in
     let both : Some is.op ≡ Some op = sym is.command ∙ k.has.command in
     let same : is.op ≡ op = cc in
-    subst NeedsPage same is.needs
+    subst CanNeedPage same is.needs
 
 -- ---- no page can go
-
--- what needs a page may lack one
-needs-lacks : (op : Op) → NeedsPage op → CanNeedPage op
-needs-lacks (Read file off len) needs = tt
-needs-lacks (Write file off bytes) needs = tt
-needs-lacks (Load number off len) needs = tt
-needs-lacks (Store number off bytes) needs = tt
-needs-lacks (Pin number index) needs = tt
-needs-lacks op needs = absurd needs
 
 pub Fit-no_page : (g : GuestState) (v : StorageView) (d : DiskView) (cpu : ℕ) (op : Op) → Fit g v d → SeeksRoom g cpu op → first_to_go g.parts ≡ None → first_locked g.parts ≡ None
     → Fit (entered g cpu op (Fail (NoPage (pinned_count g.parts) (length g.parts.pages.infos - pinned_count g.parts)))) v d
 Fit-no_page g v d cpu op f k none unlocked =
     Fit-entered g v d cpu op (Fail (NoPage (pinned_count g.parts) (length g.parts.pages.infos - pinned_count g.parts))) f k.starts.has.below k.starts.start k.starts.has.command (
-      needs-lacks op (seeks-needs (flat_of g.plan g.journal) g v d cpu op f k),
+      seeks-needs (flat_of g.plan g.journal) g v d cpu op f k,
       refused-same g v d cpu op f k.starts.has ∙ k.starts.accepted,
       no_page_legal g v d f (stuck g.parts k.full (full-tagged g.parts f.pages k.full) none unlocked),
     )

@@ -3,7 +3,7 @@ use Rattle.std.proofs.Common.{◌≡◌, ◌≢◌, ◌<◌, ◌⊎◌, ℕ, Lis
 use Rattle.std.proofs.lemmas.Bool.{cases_eq}
 use Rattle.cmm_types.specs.declared.page.Tag.{Tag}
 use Rattle.cmm_types.specs.declared.command.Op.{Op}
-use Rattle.cmm_flat.specs.Legal.{command_of}
+use Rattle.cmm_flat.specs.Legal.{command_of, CanNeedPage}
 use Rattle.guest_pages.specs.declared.info.PageInfo.{PageInfo}
 use Rattle.guest_pages.specs.PagesView.{PagesView, info_at}
 use Rattle.guest_cache.specs.CacheView.{CacheView, backing_of}
@@ -11,7 +11,7 @@ use Rattle.guest_rules.specs.declared.processor.Phase.{Phase}
 use Rattle.guest_rules.specs.declared.processor.Phase.TheVariants.{Start, Fill, Room as AtRoom, Sync as AtSync, SyncWrite, Teardown}
 use Rattle.guest_rules.specs.declared.processor.Processor.{Processor}
 use Rattle.guest_rules.specs.GuestState.{GuestState, first_processor, processor_at}
-use Rattle.guest_rules.specs.Fit.{IsFilling, IsPagingOut, IsSyncing, IsWriting, HasLocked, LocksFit, NeedsPage}
+use Rattle.guest_rules.specs.Fit.{IsFilling, IsPagingOut, IsSyncing, IsWriting, HasLocked, LocksFit}
 use Rattle.guest_rules.proofs.Kept.Changes.{InfoChange, PhaseChange}
 use Rattle.guest_rules.proofs.Kept.PageFits.{backing_of-same}
 
@@ -215,7 +215,7 @@ LocksFit-step g h cpu page phase info f k = record {
 
 -- a processor in phase Start locks a page that nobody has locked
 pub LocksFit-begun : (g h : GuestState) (cpu page : ℕ) (op : Op) (info : PageInfo) (tag : Tag) → LocksFit g → h.plan ≡ g.plan → cpu < length g.processors → page < length g.parts.pages.infos
-    → command_of g.plan cpu (processor_at g cpu).place ≡ Some op → NeedsPage op → (processor_at g cpu).phase ≡ Start → (info_at g.parts.pages page).owner ≡ None
+    → command_of g.plan cpu (processor_at g cpu).place ≡ Some op → CanNeedPage op → (processor_at g cpu).phase ≡ Start → (info_at g.parts.pages page).owner ≡ None
     → InfoChange g.parts.pages h.parts.pages page info → PhaseChange g.processors h.processors cpu (Fill page) → info.owner ≡ Some cpu → info.uptodate ≡ false → info.dirty ≡ false
     → info.tag ≡ Some tag → KeepsBlocks g.parts.cache h.parts.cache → LocksFit h
 LocksFit-begun g h cpu page op info tag f plan lt below command needs start unlocked change phase owner stale clean tagged blocks =

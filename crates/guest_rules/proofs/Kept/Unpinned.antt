@@ -9,7 +9,7 @@ use Rattle.cmm_types.specs.declared.command.Op.{Op}
 use Rattle.cmm_types.specs.declared.command.Op.TheVariants.{Read, Write, Load, Store, Pin, Unpin}
 use Rattle.cmm_io.specs.DiskView.{DiskView}
 use Rattle.cmm_flat.specs.State.{FlatState}
-use Rattle.cmm_flat.specs.Legal.{process_of}
+use Rattle.cmm_flat.specs.Legal.{process_of, CanNeedPage}
 use Rattle.essa_state.specs.PageValue.{PageValue, MayBecome, is_lost}
 use Rattle.cmm_storage.specs.StorageView.{StorageView}
 use Rattle.guest_pages.specs.declared.info.PageInfo.{PageInfo}
@@ -19,7 +19,7 @@ use Rattle.guest_maps.specs.MapsView.{find_slot}
 use Rattle.guest_rules.specs.declared.parts.Parts.{Parts}
 use Rattle.guest_rules.specs.Hint.{hint}
 use Rattle.guest_rules.specs.GuestState.{GuestState}
-use Rattle.guest_rules.specs.Fit.{PagesFit, PinsFit, FitAt, NeedsPage}
+use Rattle.guest_rules.specs.Fit.{PagesFit, PinsFit, FitAt}
 use Rattle.guest_rules.proofs.Cases.TurnCases.{Starts, Wants}
 use Rattle.guest_rules.proofs.Kept.PinLaws.{pins_within-none}
 use Rattle.guest_rules.proofs.Fit.FitMay.{infos-pages}
@@ -70,7 +70,7 @@ lost-unpinned state g v d page tag found f within tagged may lost = elim (cases_
 
 -- a command whose tag is on no page needs one
 pub begun-needs : (state : FlatState) (g : GuestState) (v : StorageView) (d : DiskView) (cpu : ℕ) (op : Op) (tag : Tag) → FitAt state g v d → Starts g cpu op → Wants g cpu op tag
-    → page_of g.parts.cache tag ≡ None → NeedsPage op
+    → page_of g.parts.cache tag ≡ None → CanNeedPage op
 begun-needs state g v d cpu (Read file off len) tag f starts wants none = tt
 begun-needs state g v d cpu (Write file off bytes) tag f starts wants none = tt
 begun-needs state g v d cpu (Load number off len) tag f starts wants none = tt

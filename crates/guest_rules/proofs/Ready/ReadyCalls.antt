@@ -27,7 +27,7 @@ use Rattle.guest_rules.specs.declared.processor.Phase.TheVariants.{Fill, Room as
 use Rattle.guest_rules.specs.declared.processor.Processor.{Processor}
 use Rattle.guest_rules.specs.GuestState.{GuestState, processor_at, first_processor}
 use Rattle.guest_rules.specs.Rows.{backing_at}
-use Rattle.guest_rules.specs.Calls.{CanClear, CanMakeRoom, CanWriteBack}
+use Rattle.guest_rules.specs.Calls.{CanTake, CanFill, CanClear, CanMakeRoom, CanWriteBack}
 use Rattle.guest_rules.specs.Fit.{SizesFit, Fit, command_count, all_commands, answered_early, entries_of, IsSyncing, IsTearing}
 use Rattle.guest_rules.proofs.Cases.TurnCases.{Has, Starts, HasItsTag, pin_op}
 use Rattle.cmm_flat.specs.Laws.CommandLaws.{command_in_range}
@@ -60,42 +60,44 @@ tag-is_tag g v d page f = of (info_at g.parts.pages page).tag refl
     of None e = tt
     of (Some tag) e = (f.pages.indexed page tag e).0
 
--- what a call needs of a page that has a tag
-pub record CanBeUsed (g : GuestState) (v : StorageView) (page : ℕ) : Type 0 where
-  pub page_below : page < length g.parts.pages.infos
-  pub pages_below : page < v.pages
-  pub not_free : Contains g.parts.pages.free page → ⊥
-  pub tag : IfSome (info_at g.parts.pages page).tag (λ tag. IsTag g.parts.cache tag)
-
 -- g the guest, v its storage, d its disk
 module _ (g : GuestState) (v : StorageView) (d : DiskView) where
-  tagged-usable : (page : ℕ) (tag : Tag) → Fit g v d → (info_at g.parts.pages page).tag ≡ Some tag → CanBeUsed g v page
-  tagged-usable page tag f tagged =
-      let below = tagged-below g.parts.pages page tag tagged in
-      record { page_below = below; pages_below = below_view (flat_of g.plan g.journal) g v d page f below; not_free = tagged-not_free g v d page tag f tagged; tag = tag-is_tag g v d page f }
+  -- entries may show each page of the guest
+  page-shown : (page : ℕ) → Fit g v d → page < length g.parts.pages.infos → page < g.parts.maps.pages
+  page-shown page f below = rw f.slots.pages below
 
-  -- a page that the index has
-  pub found-usable : (page : ℕ) (tag : Tag) → Fit g v d → IsTag g.parts.cache tag → page_of g.parts.cache tag ≡ Some page → CanBeUsed g v page
-  found-usable page tag f is found = tagged-usable page tag f (f.pages.found page tag is found).1
+  -- a page that has a tag can be taken
+  pub tagged-takes : (page : ℕ) (tag : Tag) → Fit g v d → (info_at g.parts.pages page).tag ≡ Some tag → CanTake g.parts v page
+  tagged-takes page tag f tagged =
+      let below = tagged-below g.parts.pages page tag tagged in
+      record {
+        in_use = record { below = below; shown = page-shown page f below; not_free = tagged-not_free g v d page tag f tagged; tag = tag-is_tag g v d page f };
+        there = below_view (flat_of g.plan g.journal) g v d page f below;
+        none_held = f.hints.none_held;
+      }
+
+  -- so can a page that the index has
+  pub found-takes : (page : ℕ) (tag : Tag) → Fit g v d → IsTag g.parts.cache tag → page_of g.parts.cache tag ≡ Some page → CanTake g.parts v page
+  found-takes page tag f is found = tagged-takes page tag f (f.pages.found page tag is found).1
 
   -- a page that a processor fills
-  pub filling-usable : (cpu page : ℕ) → Fit g v d → (processor_at g cpu).phase ≡ Fill page → CanBeUsed g v page
-  filling-usable cpu page f phase = let k = (f.locks.filling cpu page phase).1 in tagged-usable page k.tag f k.tagged
+  filling-takes : (cpu page : ℕ) → Fit g v d → (processor_at g cpu).phase ≡ Fill page → CanTake g.parts v page
+  filling-takes cpu page f phase = let k = (f.locks.filling cpu page phase).1 in tagged-takes page k.tag f k.tagged
 
   -- a page that a processor writes back
-  pub writing-usable : (cpu index page : ℕ) → Fit g v d → (processor_at g cpu).phase ≡ SyncWrite index page → CanBeUsed g v page
-  writing-usable cpu index page f phase = let k = f.locks.writing cpu index page phase in tagged-usable page (File k.file index) f k.tagged
+  writing-takes : (cpu index page : ℕ) → Fit g v d → (processor_at g cpu).phase ≡ SyncWrite index page → CanTake g.parts v page
+  writing-takes cpu index page f phase = let k = f.locks.writing cpu index page phase in tagged-takes page (File k.file index) f k.tagged
 
   -- it is stable
-  pub writing-stable : (cpu index page : ℕ) → Fit g v d → (processor_at g cpu).phase ≡ SyncWrite index page → (v.values page).usage ≡ S
+  writing-stable : (cpu index page : ℕ) → Fit g v d → (processor_at g cpu).phase ≡ SyncWrite index page → (v.values page).usage ≡ S
   writing-stable cpu index page f phase = (can_be_written (flat_of g.plan g.journal) g v d cpu index page f (f.locks.writing cpu index page phase)).usage
 
   -- the page of the entry that a load or store finds
-  pub entry-usable : (cpu : ℕ) (op : Op) (writes : Bool) (slot off : ℕ) (pte : Pte) → Fit g v d → Reaches g cpu op writes slot off → entry_at g.parts.maps slot (off / PAGE) ≡ Some pte
-      → CanBeUsed g v pte.page
-  entry-usable cpu op writes slot off pte f k entry =
+  pub entry-takes : (cpu : ℕ) (op : Op) (writes : Bool) (slot off : ℕ) (pte : Pte) → Fit g v d → Reaches g cpu op writes slot off → entry_at g.parts.maps slot (off / PAGE) ≡ Some pte
+      → CanTake g.parts v pte.page
+  entry-takes cpu op writes slot off pte f k entry =
       let has = entry_page (flat_of g.plan g.journal) g v d cpu op writes slot off pte f k entry in
-      tagged-usable pte.page k.tag f has.tagged
+      tagged-takes pte.page k.tag f has.tagged
 
   -- ---- blocks
 
@@ -116,6 +118,30 @@ module _ (g : GuestState) (v : StorageView) (d : DiskView) where
       of : (o : Option Tag) → (info_at g.parts.pages page).tag ≡ o → IfSome (backing_at g.parts page) (λ block. block < d.count)
       of None e = rw (e, backing_at) tt
       of (Some tag) e = rw (e, backing_at) (below tag (f.pages.indexed page tag e).0 (backing_of g.parts.cache tag) refl)
+
+  -- a page that a processor fills can be
+  pub filling-can : (cpu page : ℕ) → Fit g v d → (processor_at g cpu).phase ≡ Fill page → CanFill g.parts v d page
+  filling-can cpu page f phase = record { takes = filling-takes cpu page f phase; block = backing-below page f }
+
+  -- a stable page can be written back to the block of its tag
+  stable-can : (page : ℕ) → Fit g v d → CanTake g.parts v page → (v.values page).usage ≡ S → CanWriteBack g.parts v d page
+  stable-can page f takes stable = record {
+    below = takes.in_use.below;
+    there = takes.there;
+    tag = takes.in_use.tag;
+    block = backing-below page f;
+    used = ap is_unused stable;
+    none_held = f.hints.none_held;
+  }
+
+  -- so one that a processor writes back can be, for a sync or to make room
+  pub writing-can : (cpu index page : ℕ) → Fit g v d → (processor_at g cpu).phase ≡ SyncWrite index page → CanWriteBack g.parts v d page
+  writing-can cpu index page f phase = stable-can page f (writing-takes cpu index page f phase) (writing-stable cpu index page f phase)
+
+  pub page_out-can : (cpu page : ℕ) → Fit g v d → (processor_at g cpu).phase ≡ AtRoom page → CanWriteBack g.parts v d page
+  page_out-can cpu page f phase =
+      let k = f.locks.paging_out cpu page phase in
+      stable-can page f (tagged-takes page k.tag f k.tagged) (can_be_paged_out (flat_of g.plan g.journal) g v d cpu page f k).usage
 
   -- ---- commands
 
@@ -179,10 +205,6 @@ reached-place g cpu op writes slot off k = place-tagged g.parts.maps slot (off /
 
 -- g the guest, v its storage, d its disk
 module _ (g : GuestState) (v : StorageView) (d : DiskView) where
-  -- entries may show each page of the guest
-  pub page-shown : (page : ℕ) → Fit g v d → page < length g.parts.pages.infos → page < g.parts.maps.pages
-  page-shown page f below = rw f.slots.pages below
-
   -- a page has at most as many writers as there are entries
   pub writers-most : (page : ℕ) → Fit g v d → (info_at g.parts.pages page).writers ≤ MAX_MAPPING_SLOTS * MAX_MAPPING_PAGES
   writers-most page f = omega (arith, f.entries.writers page, count_by-le-length (stores_to page) g.parts.maps.entries, f.slots.entries)
@@ -216,14 +238,9 @@ module _ (g : GuestState) (v : StorageView) (d : DiskView) where
   pub tearing-clears : (cpu slot index : ℕ) (pte : Pte) → Fit g v d → IsTearing g cpu slot index → entry_at g.parts.maps slot index ≡ Some pte → CanClear g.parts v slot index pte
   tearing-clears cpu slot index pte f k entry =
       let its = torn_page (flat_of g.plan g.journal) g v d cpu slot index pte f k entry in
-      let usable = tagged-usable g v d pte.page its.0.tag f its.1.tagged in
       record {
         place = tearing-place g cpu slot index k;
-        takes = record {
-          in_use = record { below = usable.page_below; shown = page-shown g v d pte.page f usable.page_below; not_free = usable.not_free; tag = usable.tag };
-          there = usable.pages_below;
-          none_held = f.hints.none_held;
-        };
+        takes = tagged-takes g v d pte.page its.0.tag f its.1.tagged;
         writers = writer-some g v d slot index pte f entry;
       }
 
@@ -305,20 +322,6 @@ journal-room g v d cpu op f below command early =
     omega (arith, entries-lt g.plan cpu g.processors g.plan.cpus f.sizes.processors f.journal.within below left, f.journal.counted)
 
 -- ---- room
-
--- a page that a processor writes back to make room can be written to the block of its tag
-pub page_out-can : (g : GuestState) (v : StorageView) (d : DiskView) (cpu page : ℕ) → Fit g v d → (processor_at g cpu).phase ≡ AtRoom page → CanWriteBack g.parts v d page
-page_out-can g v d cpu page f phase =
-    let k = f.locks.paging_out cpu page phase in
-    let usable = tagged-usable g v d page k.tag f k.tagged in
-    record {
-      below = usable.page_below;
-      there = usable.pages_below;
-      tag = usable.tag;
-      block = backing-below g v d page f;
-      used = ap is_unused (can_be_paged_out (flat_of g.plan g.journal) g v d cpu page f k).usage;
-      none_held = f.hints.none_held;
-    }
 
 -- where no page is free, room can be made
 pub full-can : (g : GuestState) (v : StorageView) (d : DiskView) → Fit g v d → g.parts.pages.free ≡ [] → CanMakeRoom g.parts v

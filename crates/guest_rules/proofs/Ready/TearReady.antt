@@ -10,7 +10,7 @@ use Rattle.guest_rules.specs.GuestState.{GuestState}
 use Rattle.guest_rules.specs.Calls.{CanTear}
 use Rattle.guest_rules.specs.Fit.{Fit, IsTearing}
 use Rattle.guest_rules.proofs.Kept.FlatTags.{own-is_tag}
-use Rattle.guest_rules.proofs.Ready.ReadyCalls.{found-usable, page-shown}
+use Rattle.guest_rules.proofs.Ready.ReadyCalls.{tagged-takes}
 
 -- its tag has a place in the index
 pub tearing-is_tag : (g : GuestState) (v : StorageView) (d : DiskView) (cpu slot index : ℕ) → Fit g v d → IsTearing g cpu slot index → IsTag g.parts.cache (Anon slot index)
@@ -21,15 +21,11 @@ pub tearing-tears : (g : GuestState) (v : StorageView) (d : DiskView) (cpu slot 
     → (info_at g.parts.pages page).owner ≡ None → CanTear g.parts v slot index page
 tearing-tears g v d cpu slot index page f k there unlocked =
     let is = tearing-is_tag g v d cpu slot index f k in
-    let usable = found-usable g v d page (Anon slot index) f is there in
+    let tagged = (f.pages.found page (Anon slot index) is there).1 in
     record {
-      takes = record {
-        in_use = record { below = usable.page_below; shown = page-shown g v d page f usable.page_below; not_free = usable.not_free; tag = usable.tag };
-        there = usable.pages_below;
-        none_held = f.hints.none_held;
-      };
+      takes = tagged-takes g v d page (Anon slot index) f tagged;
       is_tag = is;
-      tagged = (f.pages.found page (Anon slot index) is there).1;
+      tagged = tagged;
       unlocked = unlocked;
       once = f.tags.distinct;
     }

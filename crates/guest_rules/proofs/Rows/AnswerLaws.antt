@@ -44,7 +44,7 @@ use Rattle.guest_rules.proofs.Kept.RowChanges.{handled-maps, change-changed, cha
 use Rattle.guest_rules.proofs.Kept.Untagged.{untagged-torn_off}
 use Rattle.guest_rules.proofs.Kept.SyncTables.{change-locked, change-unlocked, change-cleaned}
 use Rattle.guest_rules.proofs.Rows.Held.{Stabled, rehinted_value, seen_handler, seen_make_stable, seen_rehint}
-use Rattle.guest_rules.proofs.Rows.Taken.{CanBeUsed, WasDiscarded as FoundDiscarded}
+use Rattle.guest_rules.proofs.Rows.Taken.{CanBeUsed, FoundDiscarded}
 use Rattle.guest_rules.proofs.Ready.Ready.{is_used, is_used_mapped, is_used_pinned, is_used_filled, hint_clean}
 use Rattle.guest_rules.proofs.Rows.MissedPage.{MissOutcome}
 use Rattle.guest_rules.proofs.Rows.ReadPage.{ReadOutcome, seen_read_page}

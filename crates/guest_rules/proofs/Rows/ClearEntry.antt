@@ -19,7 +19,7 @@ use Rattle.guest_rules.specs.Rows.{make_stable, unmapped, clear_entry, clear_sta
 use Rattle.guest_rules.proofs.Cases.TurnCases.{AllMay}
 use Rattle.guest_rules.proofs.Ready.Ready.{is_used}
 use Rattle.guest_rules.proofs.Rows.Held.{Stabled, IsUsed, seen_make_stable}
-use Rattle.guest_rules.proofs.Rows.Taken.{CanBeUsed, WasTaken, WasDiscarded, WasThere, all_may, seen_gone, stable_taken, settle}
+use Rattle.guest_rules.proofs.Rows.Taken.{CanBeUsed, WasTaken, FoundDiscarded, WasThere, all_may, seen_gone, stable_taken, settle}
 
 -- its page has a tag still
 pub is_used_unmapped : (parts : Parts) (slot index : ℕ) (pte : Pte) (tag : Tag) → pte.page < length parts.pages.infos → (info_at parts.pages pte.page).tag ≡ Some tag
@@ -32,7 +32,7 @@ is_used_unmapped parts slot index pte tag below tagged =
 
 abbrev pub ClearOutcome : Parts → (slot index : ℕ) → Pte → StorageView → DiskView → Parts → Placed → StorageView → DiskView → Type 0
 ClearOutcome parts slot index pte v d a PlaceDone w e = (found : PageValue) × WasThere (unmapped parts slot index pte) pte.page found v d a w e
-ClearOutcome parts slot index pte v d a PlaceGone w e = WasDiscarded parts pte.page v d a w e
+ClearOutcome parts slot index pte v d a PlaceGone w e = FoundDiscarded parts pte.page v d a w e
 ClearOutcome parts slot index pte v d a (PlaceAgain why) w e = (a ≡ parts) × AllMay v d w e × Misses v w × (e ≡ d)
 
 seen_stable : (parts : Parts) (slot index : ℕ) (pte : Pte) (v m n : StorageView) (d y : DiskView) (after : Parts) (went : Result Unit Gone) (a : Parts) (r : Placed) (w : StorageView)

@@ -20,11 +20,11 @@ use Rattle.guest_rules.specs.Rows.{handler, touch_missed, load_page, load_touche
 use Rattle.guest_rules.proofs.Cases.TurnCases.{GivenBack, AllMay}
 use Rattle.guest_rules.proofs.Rows.Values.{filled_may, touched_same}
 use Rattle.guest_rules.proofs.Rows.Held.{seen_handler}
-use Rattle.guest_rules.proofs.Rows.Taken.{CanBeUsed, WasTaken, WasDiscarded, all_may, given_back, risen_around, misses_around, taken_same, seen_gone}
+use Rattle.guest_rules.proofs.Rows.Taken.{CanBeUsed, WasTaken, FoundDiscarded, all_may, given_back, risen_around, misses_around, taken_same, seen_gone}
 
 -- why the page wasn't reached. Its tables are as they were but where it had been discarded
 abbrev pub EntryMiss : Parts → ℕ → StorageView → DiskView → Parts → Missed → StorageView → DiskView → Type 0
-EntryMiss parts page v d a WasGone w e = WasDiscarded parts page v d a w e
+EntryMiss parts page v d a WasGone w e = FoundDiscarded parts page v d a w e
 EntryMiss parts page v d a (MissedAgain why) w e = (a ≡ parts) × AllMay v d w e × Misses v w × (e ≡ d)
 EntryMiss parts page v d a (MissedFail PagingCause) w e = (a ≡ parts) × AllMay v d w e × HasRisen v.faults w.faults
 EntryMiss parts page v d a (MissedFail Disk) w e = ⊥

@@ -18,11 +18,11 @@ use Rattle.guest_rules.specs.declared.outcome.Missed.{Missed}
 use Rattle.guest_rules.specs.declared.outcome.Missed.TheVariants.{Gone as WasGone, Again as MissedAgain, Fail as MissedFail}
 use Rattle.guest_rules.specs.Rows.{rehint, missed_by}
 use Rattle.guest_rules.proofs.Cases.TurnCases.{AllMay}
-use Rattle.guest_rules.proofs.Rows.Taken.{CanBeUsed, WasDiscarded, IsStable, WasThere, all_may, risen_around, misses_around, stable_same, settle}
+use Rattle.guest_rules.proofs.Rows.Taken.{CanBeUsed, FoundDiscarded, IsStable, WasThere, all_may, risen_around, misses_around, stable_same, settle}
 
 -- why the page wasn't reached
 abbrev pub MissOutcome : Parts → ℕ → StorageView → DiskView → Parts → Missed → StorageView → DiskView → Type 0
-MissOutcome parts page v d a WasGone w e = WasDiscarded parts page v d a w e
+MissOutcome parts page v d a WasGone w e = FoundDiscarded parts page v d a w e
 MissOutcome parts page v d a (MissedAgain why) w e = (((a ≡ parts) × AllMay v d w e × (e ≡ d)) ⊎ ((found : PageValue) × WasThere parts page found v d a w e)) × Misses v w
 MissOutcome parts page v d a (MissedFail PagingCause) w e = ((found : PageValue) × WasThere parts page found v d a w e) × HasRisen v.faults w.faults
 MissOutcome parts page v d a (MissedFail Disk) w e = ⊥

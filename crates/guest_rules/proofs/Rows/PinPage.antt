@@ -13,12 +13,12 @@ use Rattle.guest_rules.specs.declared.outcome.Placed.TheVariants.{Done as PlaceD
 use Rattle.guest_rules.specs.Rows.{make_stable, pinned, pin_page, pin_stable}
 use Rattle.guest_rules.proofs.Cases.TurnCases.{AllMay}
 use Rattle.guest_rules.proofs.Rows.Held.{Stabled, IsUsed, seen_make_stable}
-use Rattle.guest_rules.proofs.Rows.Taken.{CanBeUsed, WasTaken, WasDiscarded, WasThere, all_may, seen_gone, stable_taken, settle}
+use Rattle.guest_rules.proofs.Rows.Taken.{CanBeUsed, WasTaken, FoundDiscarded, WasThere, all_may, seen_gone, stable_taken, settle}
 
 -- a pin never fails: it touches nothing
 abbrev pub PinOutcome : Parts → (page slot index : ℕ) → (pins : Bool) → StorageView → DiskView → Parts → Placed → StorageView → DiskView → Type 0
 PinOutcome parts page slot index pins v d a PlaceDone w e = (found : PageValue) × WasThere (pinned parts page slot index pins) page found v d a w e
-PinOutcome parts page slot index pins v d a PlaceGone w e = WasDiscarded parts page v d a w e
+PinOutcome parts page slot index pins v d a PlaceGone w e = FoundDiscarded parts page v d a w e
 PinOutcome parts page slot index pins v d a (PlaceAgain why) w e = (a ≡ parts) × AllMay v d w e × Misses v w × (e ≡ d)
 
 seen_stable : (parts : Parts) (page slot index : ℕ) (pins : Bool) (v m n : StorageView) (d y : DiskView) (after : Parts) (went : Result Unit Gone) (a : Parts) (r : Placed) (w : StorageView)

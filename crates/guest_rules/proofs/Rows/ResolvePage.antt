@@ -14,11 +14,11 @@ use Rattle.guest_rules.specs.declared.outcome.Placed.TheVariants.{Done as PlaceD
 use Rattle.guest_rules.specs.Rows.{make_stable, rehint, mapped, resolve, resolve_stable}
 use Rattle.guest_rules.proofs.Cases.TurnCases.{AllMay}
 use Rattle.guest_rules.proofs.Rows.Held.{Stabled, IsUsed, seen_make_stable}
-use Rattle.guest_rules.proofs.Rows.Taken.{CanBeUsed, WasTaken, WasDiscarded, WasThere, all_may, seen_gone, stable_taken, settle}
+use Rattle.guest_rules.proofs.Rows.Taken.{CanBeUsed, WasTaken, FoundDiscarded, WasThere, all_may, seen_gone, stable_taken, settle}
 
 abbrev pub ResolveOutcome : Parts → (page slot index : ℕ) → (writable : Bool) → StorageView → DiskView → Parts → Placed → StorageView → DiskView → Type 0
 ResolveOutcome parts page slot index writable v d a PlaceDone w e = (found : PageValue) × WasThere (mapped parts page slot index writable) page found v d a w e
-ResolveOutcome parts page slot index writable v d a PlaceGone w e = WasDiscarded parts page v d a w e
+ResolveOutcome parts page slot index writable v d a PlaceGone w e = FoundDiscarded parts page v d a w e
 ResolveOutcome parts page slot index writable v d a (PlaceAgain why) w e = (a ≡ parts) × AllMay v d w e × Misses v w × (e ≡ d)
 
 seen_stable : (parts : Parts) (page slot index : ℕ) (writable : Bool) (v m n : StorageView) (d y : DiskView) (after : Parts) (went : Result Unit Gone) (a : Parts) (r : Placed) (w : StorageView)

@@ -18,7 +18,7 @@ use Rattle.guest_rules.specs.MakeRoom.{behind, locked_to_go, go_known, go_change
 use Rattle.guest_rules.proofs.Cases.TurnCases.{GivenBack, AllMay}
 use Rattle.guest_rules.proofs.Rows.Held.{Stabled, seen_make_stable}
 use Rattle.guest_rules.proofs.Rows.SyncPage.{clean_before}
-use Rattle.guest_rules.proofs.Rows.Taken.{CanBeUsed, WasTaken, WasDiscarded, IsStable, all_may, given_back, seen_gone, stable_taken}
+use Rattle.guest_rules.proofs.Rows.Taken.{CanBeUsed, WasTaken, FoundDiscarded, IsStable, all_may, given_back, seen_gone, stable_taken}
 
 -- the page is clean, and was freed
 pub record WasCleared (parts : Parts) (page : ℕ) (v : StorageView) (d : DiskView) (a : Parts) (w : StorageView) (e : DiskView) : Type 0 where
@@ -43,7 +43,7 @@ pub record WasLockedToGo (parts : Parts) (page cpu : ℕ) (v : StorageView) (d :
 
 -- what became of the page that goes: it had been discarded or is clean, and is free; it is locked; or it was busy
 abbrev pub GoOutcome : Parts → (page cpu : ℕ) → StorageView → DiskView → Parts → Room → StorageView → DiskView → Type 0
-GoOutcome parts page cpu v d a Freed w e = WasDiscarded parts page v d a w e ⊎ WasCleared parts page v d a w e
+GoOutcome parts page cpu v d a Freed w e = FoundDiscarded parts page v d a w e ⊎ WasCleared parts page v d a w e
 GoOutcome parts page cpu v d a (Locked its) w e = (its ≡ page) × WasLockedToGo parts page cpu v d a w e
 GoOutcome parts page cpu v d a (Waits its owner) w e = ⊥
 GoOutcome parts page cpu v d a (NoPage pinned unslotted) w e = ⊥

@@ -17,7 +17,7 @@ use Rattle.guest_rules.specs.Rows.{make_stable, with_change}
 use Rattle.guest_rules.specs.Syncs.{locked, sync_owned, sync_known, sync_changed, sync_stable}
 use Rattle.guest_rules.proofs.Cases.TurnCases.{GivenBack, AllMay}
 use Rattle.guest_rules.proofs.Rows.Held.{Stabled, seen_make_stable}
-use Rattle.guest_rules.proofs.Rows.Taken.{CanBeUsed, WasTaken, WasDiscarded, IsStable, WasThere, all_may, given_back, seen_gone, stable_taken, stable_same, settle}
+use Rattle.guest_rules.proofs.Rows.Taken.{CanBeUsed, WasTaken, FoundDiscarded, IsStable, WasThere, all_may, given_back, seen_gone, stable_taken, stable_same, settle}
 
 -- the page is clean
 pub record WasClean (parts : Parts) (page : ℕ) (v : StorageView) (d : DiskView) (w : StorageView) (e : DiskView) : Type 0 where
@@ -40,7 +40,7 @@ pub record WasLocked (parts : Parts) (page cpu : ℕ) (v : StorageView) (d : Dis
 abbrev pub LookOutcome : Parts → (page cpu : ℕ) → StorageView → DiskView → Parts → Synced → StorageView → DiskView → Type 0
 LookOutcome parts page cpu v d a Clean w e = (a ≡ parts) × WasClean parts page v d w e
 LookOutcome parts page cpu v d a Locked w e = WasLocked parts page cpu v d a w e
-LookOutcome parts page cpu v d a WasGone w e = WasDiscarded parts page v d a w e
+LookOutcome parts page cpu v d a WasGone w e = FoundDiscarded parts page v d a w e
 LookOutcome parts page cpu v d a (IsLocked owner) w e = ⊥
 LookOutcome parts page cpu v d a (SyncAgain why) w e = (a ≡ parts) × AllMay v d w e × Misses v w × (e ≡ d)
 

@@ -57,7 +57,7 @@ pub taken_same : (page : ℕ) (v m n : StorageView) → WasTaken page v m → Ke
 taken_same page v m n taken keeps same = record { keeps = Keeps-trans v m n page taken.keeps keeps; may = rw same taken.may; quiet = λ q. same ∙ taken.quiet q }
 
 -- the page had been discarded, and was handled and given back
-pub record WasDiscarded (parts : Parts) (page : ℕ) (v : StorageView) (d : DiskView) (a : Parts) (w : StorageView) (e : DiskView) : Type 0 where
+pub record FoundDiscarded (parts : Parts) (page : ℕ) (v : StorageView) (d : DiskView) (a : Parts) (w : StorageView) (e : DiskView) : Type 0 where
   pub tables : a ≡ handled parts page
   pub back : GivenBack page v d w e
   pub found : PageValue
@@ -68,7 +68,7 @@ pub record WasDiscarded (parts : Parts) (page : ℕ) (v : StorageView) (d : Disk
 
 pub seen_gone : {R : Type 0} (parts after : Parts) (r : R) (page : ℕ) (v m n : StorageView) (d y : DiskView) (a : Parts × R) (w : StorageView) (e : DiskView)
     → WasTaken page v m → is_lost (m.values page).contents ≡ true → IsHandled parts page m d after n y → Seen {A = Parts × R} (put_page page (done (after, r))) n y a w e
-    → (a.1 ≡ r) × WasDiscarded parts page v d a.0 w e
+    → (a.1 ≡ r) × FoundDiscarded parts page v d a.0 w e
 seen_gone parts after r page v m n d y a w e taken lost gone (o, (keeps, nothing, still, held, value), (ea, em, ed)) = (
   ap (λ q. q.1) ea,
   record {

@@ -3,7 +3,6 @@ use Rattle.cmm_types.specs.declared.turn.Alone.{Alone}
 use Rattle.guest_rules.specs.GuestState.{GuestState}
 use Rattle.guest_rules.specs.Alone.{alone}
 use Rattle.guest_rules.proofs.TurnLaws.{Causes-alone}
-use Rattle.guest_core.proofs.AloneDiscards.{alone_discards}
 use Rattle.guest_core.proofs.guest.Guest.alone.Given.{Over}
 use Rattle.guest_core.proofs.guest.Guest.alone.Goals as goal
 
@@ -17,6 +16,3 @@ seen g c =
 
 pub returns-clause-causes : goal.returns-clause-causes
 returns-clause-causes g c = Causes-alone c.args.self.now c.args.cpu _ _ c.run_alone.new.self c.run_alone.result _ _ c.requires.quiet c.requires.fit c.requires.cpu (seen g c)
-
-pub returns-clause-discards : goal.returns-clause-discards
-returns-clause-discards g c = alone_discards c.args.self.now c.run_alone.new.self _ _ _ _ c.args.cpu c.run_alone.result c.requires.quiet c.requires.fit c.requires.cpu (seen g c)

@@ -1,8 +1,8 @@
 use Rattle.std.proofs.Common.{sym, ap, ◌∙◌}
 use Rattle.guest_rules.specs.declared.processor.Processor.{Processor}
 use Rattle.guest_rules.specs.Fit.{answered_early}
-use Rattle.guest_rules.proofs.Ready.ReadyCalls.{page_out-can}
-use Rattle.guest_core.proofs.Ready.{can_enter, can_fill}
+use Rattle.guest_rules.proofs.Ready.ReadyCalls.{filling-can, page_out-can}
+use Rattle.guest_core.proofs.Ready.{can_enter}
 use Rattle.guest_core.proofs.guest.Guest.command_turn.Goals as goal
 
 pub start_turn-requires-clause-enters : goal.start_turn-requires-clause-enters
@@ -22,7 +22,7 @@ fill_turn-requires-clause-enters g c =
     (ap (λ (p : Processor). answered_early p.phase) (sym c.processor.ensures) ∙ ap answered_early c.in-Fill.is)
 
 pub fill_turn-requires-clause-fills : goal.fill_turn-requires-clause-fills
-fill_turn-requires-clause-fills g c = can_fill c.args.self.now _ _ c.args.cpu c.in-Fill.page c.requires.fit (ap (λ (p : Processor). p.phase) (sym c.processor.ensures) ∙ c.in-Fill.is)
+fill_turn-requires-clause-fills g c = filling-can c.args.self.now _ _ c.args.cpu c.in-Fill.page c.requires.fit (ap (λ (p : Processor). p.phase) (sym c.processor.ensures) ∙ c.in-Fill.is)
 
 pub page_out_turn-requires-clause-enters : goal.page_out_turn-requires-clause-enters
 page_out_turn-requires-clause-enters g c =

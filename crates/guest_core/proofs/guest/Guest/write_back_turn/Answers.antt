@@ -1,4 +1,5 @@
-use Rattle.guest_core.proofs.Syncs.{write-next, write-writes}
+use Rattle.guest_rules.proofs.Ready.ReadyCalls.{writing-can}
+use Rattle.guest_core.proofs.Syncs.{write-next}
 use Rattle.guest_core.proofs.OtherTurns.{same_disk_run, back-sync}
 use Rattle.guest_core.proofs.guest.Guest.write_back_turn.Goals as goal
 
@@ -6,7 +7,7 @@ pub write_file_back-requires-clause-next : goal.write_file_back-requires-clause-
 write_file_back-requires-clause-next g c = write-next c.args.self.now _ _ c.args.cpu c.args.index c.args.page c.requires.fit c.requires.phase
 
 pub write_file_back-requires-clause-writes : goal.write_file_back-requires-clause-writes
-write_file_back-requires-clause-writes g c = write-writes c.args.self.now _ _ c.args.cpu c.args.index c.args.page c.requires.fit c.requires.phase
+write_file_back-requires-clause-writes g c = writing-can c.args.self.now _ _ c.args.cpu c.args.index c.args.page c.requires.fit c.requires.phase
 
 pub returns-in-Sync : goal.returns-in-Sync
 returns-in-Sync g c =
