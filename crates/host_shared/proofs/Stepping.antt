@@ -18,7 +18,7 @@ use Rattle.cmm_storage.specs.StorageView.{Follows}
 use Rattle.state_words.specs.SeatView.{Hold, SeatView, WordsView, Seated, IsGuestSeat, HoldsPage, value_at, guest_values}
 use Rattle.state_words.specs.Accesses.{Leads, touched_word, touched_body, stored_word, stored_body, change_taken, CanTouch, AllowsStore}
 use Rattle.state_words.specs.Laws.AccessLaws.{Leads-same, Leads-ordered, Leads-touched, Leads-stored, Leads-change_taken}
-use Rattle.state_words.specs.Steps.{HasTried, FindsBusy, claimed_view, left_view}
+use Rattle.state_words.specs.Steps.{FindsBusy, claimed_view, left_view}
 use Rattle.frame_pool.specs.Seats.{PoolId, PoolSeatView}
 use Rattle.host_shared.specs.Bodies.{BodyParts, lent_body, body_house}
 use Rattle.host_shared.specs.Holding.{HeldState, IsHeldPage, IsTouched, TrapCause}
@@ -27,7 +27,7 @@ use Rattle.host_shared.specs.Searching.{SearchCause}
 use Rattle.host_shared.specs.PagerCalls.{PagerCalled}
 use Rattle.host_shared.specs.Touching.{TouchMakes, TouchCause}
 use Rattle.host_shared.specs.Binding.{StorageState, page_of_hold, held_page, value_in, is_touched, IsTied, IsStorage}
-use Rattle.host_shared.specs.Binding.{seen_of, storage_view, StaysBound, LeavesHost, Uses, BoundStep, IsBoundTo, raised_at}
+use Rattle.host_shared.specs.Binding.{seen_of, storage_view, StaysBound, LeavesHost, TakesFound, Uses, BoundStep, IsBoundTo, raised_at}
 use Rattle.host_shared.proofs.Seats.{words_housed}
 use Rattle.host_shared.proofs.Following.{in-here, take-ok, take-busy, give, change, fetch, store, put, touch-ok, touch-trapped}
 
@@ -111,10 +111,21 @@ sound_held s hosts pool pager h k nf is held page of_pool goes sound few = recor
   few = few;
 }
 
+takes_found : (s : StorageState) (seat : Seated) (page : ℕ) (word : Fields) (parts : BodyParts) (h : HeldState) → word.busy ≡ false →
+    seat.view ≡ claimed_view s.seat.view page word (lent_body parts) → h ≡ record { page = page; word = word; parts = parts; touched = false } → TakesFound page s (with_seat s seat (Some h))
+takes_found s seat page word parts h free view made = record {
+  held = h;
+  is_held = refl;
+  of_page = ap (λ (q : HeldState). q.page) made;
+  free = ap (λ (q : HeldState). q.word.busy) made ∙ free;
+  untouched = ap (λ (q : HeldState). q.touched) made;
+  claimed = subst (λ (q : HeldState). seat.view ≡ claimed_view s.seat.view page q.word (lent_body q.parts)) (sym made) view;
+}
+
 pub step_take-ok : (s : StorageState) (seat : Seated) (page : ℕ) (word : Fields) (parts : BodyParts) (h : HeldState) → s.held ≡ None → is_permitted word ≡ true → word.busy ≡ false →
     MayBecome (value_at (guest_values s.seat.view.role) page) (actual word (lent_body parts)) → seat.words ≡ s.seat.words → seat.view ≡ claimed_view s.seat.view page word (lent_body parts) →
-    HasTried page s.seat.view false seat.view → h ≡ record { page = page; word = word; parts = parts; touched = false } → BoundStep s (Take page (Ok tt)) (with_seat s seat (Some h))
-step_take-ok s seat page word parts h none permitted free may words view tried made =
+    h ≡ record { page = page; word = word; parts = parts; touched = false } → BoundStep s (Take page (Ok tt)) (with_seat s seat (Some h))
+step_take-ok s seat page word parts h none permitted free may words view made =
     let claimed : Seated = record { words = s.seat.words; view = claimed_view s.seat.view page word (lent_body parts) } in
     let first : HeldState = record { page = page; word = word; parts = parts; touched = false } in
     let follows : Follows (seen_of s.seat None s.pager.faults s.no_frames) (Take page (Ok tt)) (seen_of claimed (Some first) s.pager.faults s.no_frames) =
@@ -126,17 +137,17 @@ step_take-ok s seat page word parts h none permitted free may words view tried m
           (sym (same_seat seat claimed words view)) follows));
       counted = refl;
       stays = stays s seat (Some h) words;
-      uses = (none_leaves s seat (Some h), tried);
+      uses = (none_leaves s seat (Some h), takes_found s seat page word parts h free view made);
     }
 
 pub step_take-busy : (s : StorageState) (seat : Seated) (page raw : ℕ) → s.held ≡ None → seat.words ≡ s.seat.words → FindsBusy page s.seat.view raw seat.view →
-    HasTried page s.seat.view true seat.view → BoundStep s (Take page (Err record { word = raw })) (with_seat s seat None)
-step_take-busy s seat page raw none words found tried = record {
+    BoundStep s (Take page (Err record { word = raw })) (with_seat s seat None)
+step_take-busy s seat page raw none words found = record {
   follows = subst (λ (q : Option HeldState). Follows (seen_of s.seat q s.pager.faults s.no_frames) (Take page (Err record { word = raw })) (seen_of seat None s.pager.faults s.no_frames)) (sym none)
       (take-busy s.seat seat page raw s.pager.faults s.no_frames words found);
   counted = refl;
   stays = stays s seat None words;
-  uses = (none_leaves s seat None, tried);
+  uses = (none_leaves s seat None, sym none, found);
 }
 
 pub step_give : (s : StorageState) (h k : HeldState) (page : ℕ) (code : Order) (old : Old) → IsStorage s → s.held ≡ Some h → held_page s.held ≡ Some page →
