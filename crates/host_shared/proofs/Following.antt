@@ -11,13 +11,13 @@ use Rattle.essa_state.specs.declared.fields.Fields.{Fields}
 use Rattle.essa_state.specs.declared.orders.Order.{Order}
 use Rattle.essa_state.specs.StateWord.{is_permitted, is_resident, is_discarded}
 use Rattle.essa_state.specs.Orders.{order_done, after_order}
-use Rattle.essa_state.specs.PageValue.{PageValue, Bytes, is_lost, MayBecome, IsValue, OrderStep, opening_value}
+use Rattle.essa_state.specs.PageValue.{PageValue, is_lost, MayBecome, IsValue, OrderStep, opening_value}
 use Rattle.essa_state.specs.PageBody.{Body, actual, frame_bytes}
 use Rattle.essa_state.specs.Laws.PageValueLaws.{actual-is_value, ordered-value}
 use Rattle.essa_state.specs.Laws.WordLaws.{ordered-permitted}
 use Rattle.cmm_storage.specs.declared.storage.Trap.{Trap}
 use Rattle.cmm_storage.specs.declared.storage.Trap.TheVariants.{Discarded, Paging, NoFrame}
-use Rattle.cmm_storage.specs.Laws.HoldLaws.{actual-placed, after_order-content, resident-content, resident-contents, resident-bytes, stored-actual, lost-discarded, not-touched}
+use Rattle.cmm_storage.specs.Laws.HoldLaws.{actual-placed, after_order-content, resident-contents, resident-bytes, stored-actual, lost-discarded, not-touched}
 use Rattle.cmm_storage.specs.StorageCall.{Take, Touch, Give, TakeChange, Fetch, Store, Put}
 use Rattle.cmm_storage.specs.StorageView.{Follows, Keeps, IsPlaced, IsWhole, bytes_of, touched_contents, stored_value}
 use Rattle.state_words.specs.SeatView.{SeatView, Seated, SeatStep, Role, Guest, Host, Spent, Tried, Left, value_at, guest_values}

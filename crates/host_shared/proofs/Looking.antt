@@ -1,11 +1,12 @@
 -- One look more.
-use Rattle.std.specs.Prelude.{◌≡◌, ℕ, ◌+◌, List, [], ◌∷◌, ◌++◌, Bool, true, false, Option, None, refl, if◌then◌else◌}
+use Rattle.std.specs.Prelude.{◌≡◌, ℕ, ◌+◌, ◌≤◌, List, [], ◌∷◌, ◌++◌, Bool, true, false, Option, None, refl, if◌then◌else◌}
 use Rattle.std.specs.List.{sum_by, flat_map}
 use Rattle.std.proofs.Common.{arith, ap, sym, subst, ◌∙◌, append_assoc, append-nil, add-one}
 use Rattle.std.proofs.lemmas.List.{map-append}
 use Rattle.std.proofs.lemmas.List.Concat.{flat_map-append}
-use Rattle.std.proofs.lemmas.List.Elements.{All-nil, All-push}
+use Rattle.std.proofs.lemmas.List.Elements.{All-nil, All-push, All-weaker}
 use Rattle.std.proofs.lemmas.List.Sums.{sum_by-append}
+use Rattle.cmm_io.specs.Faults.{HasRisen}
 use Rattle.state_words.specs.SeatView.{SeatStep, Tried, Moved, SeatView}
 use Rattle.host_shared.specs.Looks.{Look, look_steps, GrewByLooks, is_page, pages_but, freed_by, freed_at, freed_in}
 use Rattle.frame_pool.specs.Seats.{PoolSeatView}
@@ -37,15 +38,36 @@ module _ (IsKind : Look → Type 0) where
     each = All-push IsKind before.looks l before.each kind;
   }
 
+-- a reclaim's cause stands where the pager's faults rose further
+cause_wider : (outcome : Outcome) (urgent : Bool) (l : Look) (faults risen before after : ℕ) → before ≤ faults → risen ≤ after → HasCause outcome urgent l faults risen →
+    HasCause outcome urgent l before after
+cause_wider (Busy raw) urgent l faults risen before after low high c = c
+cause_wider (Left raw) urgent l faults risen before after low high c = c
+cause_wider Aged urgent l faults risen before after low high c = c
+cause_wider Discarded urgent l faults risen before after low high c = c
+cause_wider Preserved urgent l faults risen before after low high c = c
+cause_wider Paging urgent l faults risen before after low high c = (c.0, c.1, (let rose : HasRisen faults risen = c.2 in omega (arith, low, high, rose)))
+
+pub reclaims_wider : (urgent : Bool) (faults risen before after : ℕ) (pages : List ℕ) (v w : SeatView) → before ≤ faults → risen ≤ after →
+    GrewByLooks (IsReclaim urgent faults risen) pages v w → GrewByLooks (IsReclaim urgent before after) pages v w
+reclaims_wider urgent faults risen before after pages v w low high grew = record {
+  looks = grew.looks;
+  steps = grew.steps;
+  pages_are = grew.pages_are;
+  each = All-weaker (IsReclaim urgent faults risen) (IsReclaim urgent before after) (λ l is. (is.0, cause_wider is.0 urgent l faults risen before after low high is.1)) grew.looks grew.each;
+}
+
 -- a reclaim that isn't urgent, of the next page
-pub pass_more : (page : ℕ) (v w x : SeatView) (outcome : Outcome) (faults risen : ℕ) → GrewByLooks (IsReclaim false) (pages_but None 0 page) v w →
-    Reclaims outcome page false w x faults risen → GrewByLooks (IsReclaim false) (pages_but None 0 (page + 1)) v x
-pass_more page v w x outcome faults risen before one =
-    let after : GrewByLooks (IsReclaim false) (pages_but None 0 page ++ one.look.page ∷ []) v x =
-    looks_more (IsReclaim false) (pages_but None 0 page) v w x one.look before one.steps (outcome, faults, risen, one.cause) in
+pub pass_more : (page : ℕ) (v w x : SeatView) (outcome : Outcome) (start faults risen : ℕ) → start ≤ faults → faults ≤ risen → GrewByLooks (IsReclaim false start faults) (pages_but None 0 page) v w →
+    Reclaims outcome page false w x faults risen → GrewByLooks (IsReclaim false start risen) (pages_but None 0 (page + 1)) v x
+pass_more page v w x outcome start faults risen low high before one =
+    let wide : GrewByLooks (IsReclaim false start risen) (pages_but None 0 page) v w = reclaims_wider false start faults start risen (pages_but None 0 page) v w (omega arith) high before in
+    let cause : HasCause outcome false one.look start risen = cause_wider outcome false one.look faults risen start risen low (omega arith) one.cause in
+    let after : GrewByLooks (IsReclaim false start risen) (pages_but None 0 page ++ one.look.page ∷ []) v x =
+    looks_more (IsReclaim false start risen) (pages_but None 0 page) v w x one.look wide one.steps (outcome, cause) in
     let pages : pages_but None 0 page ++ one.look.page ∷ [] ≡ pages_but None 0 (page + 1) =
     ap (λ (p : ℕ). pages_but None 0 page ++ p ∷ []) one.of_page ∙ sym (page_more None 0 page page (omega arith) refl) in
-    subst (λ (ps : List ℕ). GrewByLooks (IsReclaim false) ps v x) pages after
+    subst (λ (ps : List ℕ). GrewByLooks (IsReclaim false start risen) ps v x) pages after
 
 freed_free : (l : Look) (n : ℕ) → l.word.busy ≡ false → freed_by l.action ≡ n → sum_by freed_at (look_steps l) ≡ n
 freed_free l n free by = ap (λ (b : Bool). sum_by freed_at (Tried l.page l.word ∷ (if b then [] else Moved l.page l.action ∷ []))) free ∙ omega (arith, by)

@@ -1,5 +1,5 @@
 -- Looks of a search, one after another, and guests, one after another.
-use Rattle.std.specs.Prelude.{◌≡◌, ℕ, ◌+◌, ◌-◌, ◌<◌, ◌≤◌, List, [], ◌∷◌, ◌++◌, length, map, Bool, true, false, Option, refl, slice_set, slice_index_or, if◌then◌else◌}
+use Rattle.std.specs.Prelude.{◌≡◌, ℕ, ◌+◌, ◌-◌, ◌<◌, ◌≤◌, List, [], ◌∷◌, ◌++◌, length, map, Bool, true, false, Option, Some, refl, slice_set, slice_index_or, if◌then◌else◌}
 use Rattle.std.specs.List.{sum_by, flat_map}
 use Rattle.std.proofs.Common.{arith, ap, sym, subst, inl, inr, ◌∙◌, append_assoc, get_or-set_other, get_or-set_same}
 use Rattle.std.proofs.lemmas.Bool.{cases_lt}
@@ -7,10 +7,12 @@ use Rattle.std.proofs.lemmas.List.{get_or_default, map-append}
 use Rattle.std.proofs.lemmas.List.Concat.{flat_map-append}
 use Rattle.std.proofs.lemmas.List.Elements.{All-append}
 use Rattle.std.proofs.lemmas.List.Sums.{sum_by-append, sum_by-set}
+use Rattle.cmm_types.specs.declared.page.Move.{Move}
+use Rattle.cmm_types.specs.declared.page.Move.TheVariants.{Discard, Preserve}
 use Rattle.state_words.specs.SeatView.{SeatStep, Tried, Moved, SeatView, Seated}
-use Rattle.host_shared.specs.Looks.{Look, look_steps, GrewByLooks, is_page, pages_but, freed_by, freed_in}
-use Rattle.host_shared.specs.Reclaiming.{Reclaims, freed_of}
-use Rattle.host_shared.specs.Searching.{FindsNothing, tried_at, tried_in, tried_in_all, round_but, held_of, LooksIn, LooksRound, FoundNone, Searched}
+use Rattle.host_shared.specs.Looks.{Look, look_steps, GrewByLooks, is_page, pages_but, freed_in}
+use Rattle.host_shared.specs.Reclaiming.{IsToMove, Reclaims, freed_of}
+use Rattle.host_shared.specs.Searching.{FreesFrame, FindsNothing, tried_at, tried_in, tried_in_all, round_but, held_of, LooksIn, LooksRound, FoundNone, Searched}
 use Rattle.host_shared.specs.declared.reclaim.Outcome.{Outcome}
 use Rattle.host_shared.specs.declared.reclaim.Outcome.TheVariants.{Discarded, Preserved, Left, Busy}
 use Rattle.host_shared.proofs.Looking.{page_more, page_skipped, looks_none, looks_more, freed_more}
@@ -44,15 +46,22 @@ one_look outcome page v w faults risen dry dried one nothing dries =
       looks_are = omega (arith, tried, once);
     }
 
+frees : (l : Look) (action : Move) → IsToMove true l.word action → l.action ≡ Some action → FreesFrame l
+frees l action move by = record {
+  urgent = record { free = move.free; resident = move.resident; not_spared = move.not_spared; chosen = refl };
+  moved = by ∙ ap (λ (a : Move). Some a) (sym move.chosen);
+}
+
 -- a look that frees a frame, and a take that finds the pool dry
 pub look_discards : (page : ℕ) (v w : SeatView) (faults risen dry dried : ℕ) → Reclaims Discarded page true v w faults risen → dried ≡ dry + 1 → LooksIn (page ∷ []) v w dry dried 1
-look_discards page v w faults risen dry dried one dries = one_look Discarded page v w faults risen dry dried one (inr (inr (ap freed_by one.cause.1))) dries
+look_discards page v w faults risen dry dried one dries = one_look Discarded page v w faults risen dry dried one (inr (inr (frees one.look Discard one.cause.0 one.cause.1))) dries
 
 pub look_preserves : (page : ℕ) (v w : SeatView) (faults risen dry dried : ℕ) → Reclaims Preserved page true v w faults risen → dried ≡ dry + 1 → LooksIn (page ∷ []) v w dry dried 1
-look_preserves page v w faults risen dry dried one dries = one_look Preserved page v w faults risen dry dried one (inr (inr (ap freed_by one.cause.1))) dries
+look_preserves page v w faults risen dry dried one dries = one_look Preserved page v w faults risen dry dried one (inr (inr (frees one.look Preserve one.cause.0 one.cause.1))) dries
 
 pub look_leaves : (page raw : ℕ) (v w : SeatView) (faults risen dry dried : ℕ) → Reclaims (Left raw) page true v w faults risen → dried ≡ dry → LooksIn (page ∷ []) v w dry dried 1
-look_leaves page raw v w faults risen dry dried one same = one_look (Left raw) page v w faults risen dry dried one (inr (inl one.cause.2)) (omega (arith, same))
+look_leaves page raw v w faults risen dry dried one same =
+    one_look (Left raw) page v w faults risen dry dried one (inr (inl (record { free = one.cause.1; absent = one.cause.2; as_found = one.cause.3 }))) (omega (arith, same))
 
 pub look_is_busy : (page raw : ℕ) (v w : SeatView) (faults risen dry dried : ℕ) → Reclaims (Busy raw) page true v w faults risen → dried ≡ dry → LooksIn (page ∷ []) v w dry dried 1
 look_is_busy page raw v w faults risen dry dried one same = one_look (Busy raw) page v w faults risen dry dried one (inl one.cause.1) (omega (arith, same))

@@ -7,7 +7,7 @@ use Rattle.cmm_io.specs.FailurePlan.{FailurePlan}
 use Rattle.essa_state.specs.declared.fields.Fields.{Fields}
 use Rattle.essa_state.specs.declared.orders.Order.{Order}
 use Rattle.essa_state.specs.declared.orders.Old.{Old}
-use Rattle.essa_state.specs.StateWord.{is_permitted, is_discarded, is_unused}
+use Rattle.essa_state.specs.StateWord.{is_permitted, is_resident, is_discarded, is_unused}
 use Rattle.essa_state.specs.Orders.{order_done, after_order}
 use Rattle.essa_state.specs.PageValue.{PageValue, MayBecome}
 use Rattle.essa_state.specs.PageBody.{Body, actual, frame_bytes}
@@ -18,16 +18,16 @@ use Rattle.cmm_storage.specs.StorageView.{Follows}
 use Rattle.state_words.specs.SeatView.{Hold, SeatView, WordsView, Seated, IsGuestSeat, HoldsPage, value_at, guest_values}
 use Rattle.state_words.specs.Accesses.{Leads, touched_word, touched_body, stored_word, stored_body, change_taken, CanTouch, AllowsStore}
 use Rattle.state_words.specs.Laws.AccessLaws.{Leads-same, Leads-ordered, Leads-touched, Leads-stored, Leads-change_taken}
-use Rattle.state_words.specs.Steps.{HasTried, FindsBusy, claimed_view, left_view}
+use Rattle.state_words.specs.Steps.{FindsBusy, claimed_view, left_view}
 use Rattle.frame_pool.specs.Seats.{PoolId, PoolSeatView}
 use Rattle.host_shared.specs.Bodies.{BodyParts, lent_body, body_house}
 use Rattle.host_shared.specs.Holding.{HeldState, IsHeldPage, IsTouched, TrapCause}
 use Rattle.host_shared.specs.Reclaiming.{CanReclaim}
 use Rattle.host_shared.specs.Searching.{SearchCause}
 use Rattle.host_shared.specs.PagerCalls.{PagerCalled}
-use Rattle.host_shared.specs.Touching.{TouchMakes, TouchCause}
+use Rattle.host_shared.specs.Touching.{TouchMakes, TouchCause, LeavesSupply}
 use Rattle.host_shared.specs.Binding.{StorageState, page_of_hold, held_page, value_in, is_touched, IsTied, IsStorage}
-use Rattle.host_shared.specs.Binding.{seen_of, storage_view, StaysBound, LeavesHost, Uses, BoundStep, IsBoundTo, raised_at}
+use Rattle.host_shared.specs.Binding.{seen_of, storage_view, StaysBound, LeavesHost, TakesFound, content_of, Uses, BoundStep, IsBoundTo, raised_at}
 use Rattle.host_shared.proofs.Seats.{words_housed}
 use Rattle.host_shared.proofs.Following.{in-here, take-ok, take-busy, give, change, fetch, store, put, touch-ok, touch-trapped}
 
@@ -111,10 +111,21 @@ sound_held s hosts pool pager h k nf is held page of_pool goes sound few = recor
   few = few;
 }
 
+takes_found : (s : StorageState) (seat : Seated) (page : ℕ) (word : Fields) (parts : BodyParts) (h : HeldState) → word.busy ≡ false →
+    seat.view ≡ claimed_view s.seat.view page word (lent_body parts) → h ≡ record { page = page; word = word; parts = parts; touched = false } → TakesFound page s (with_seat s seat (Some h))
+takes_found s seat page word parts h free view made = record {
+  held = h;
+  is_held = refl;
+  of_page = ap (λ (q : HeldState). q.page) made;
+  free = ap (λ (q : HeldState). q.word.busy) made ∙ free;
+  untouched = ap (λ (q : HeldState). q.touched) made;
+  claimed = subst (λ (q : HeldState). seat.view ≡ claimed_view s.seat.view page q.word (lent_body q.parts)) (sym made) view;
+}
+
 pub step_take-ok : (s : StorageState) (seat : Seated) (page : ℕ) (word : Fields) (parts : BodyParts) (h : HeldState) → s.held ≡ None → is_permitted word ≡ true → word.busy ≡ false →
     MayBecome (value_at (guest_values s.seat.view.role) page) (actual word (lent_body parts)) → seat.words ≡ s.seat.words → seat.view ≡ claimed_view s.seat.view page word (lent_body parts) →
-    HasTried page s.seat.view false seat.view → h ≡ record { page = page; word = word; parts = parts; touched = false } → BoundStep s (Take page (Ok tt)) (with_seat s seat (Some h))
-step_take-ok s seat page word parts h none permitted free may words view tried made =
+    h ≡ record { page = page; word = word; parts = parts; touched = false } → BoundStep s (Take page (Ok tt)) (with_seat s seat (Some h))
+step_take-ok s seat page word parts h none permitted free may words view made =
     let claimed : Seated = record { words = s.seat.words; view = claimed_view s.seat.view page word (lent_body parts) } in
     let first : HeldState = record { page = page; word = word; parts = parts; touched = false } in
     let follows : Follows (seen_of s.seat None s.pager.faults s.no_frames) (Take page (Ok tt)) (seen_of claimed (Some first) s.pager.faults s.no_frames) =
@@ -126,17 +137,17 @@ step_take-ok s seat page word parts h none permitted free may words view tried m
           (sym (same_seat seat claimed words view)) follows));
       counted = refl;
       stays = stays s seat (Some h) words;
-      uses = (none_leaves s seat (Some h), tried);
+      uses = (none_leaves s seat (Some h), takes_found s seat page word parts h free view made);
     }
 
 pub step_take-busy : (s : StorageState) (seat : Seated) (page raw : ℕ) → s.held ≡ None → seat.words ≡ s.seat.words → FindsBusy page s.seat.view raw seat.view →
-    HasTried page s.seat.view true seat.view → BoundStep s (Take page (Err record { word = raw })) (with_seat s seat None)
-step_take-busy s seat page raw none words found tried = record {
+    BoundStep s (Take page (Err record { word = raw })) (with_seat s seat None)
+step_take-busy s seat page raw none words found = record {
   follows = subst (λ (q : Option HeldState). Follows (seen_of s.seat q s.pager.faults s.no_frames) (Take page (Err record { word = raw })) (seen_of seat None s.pager.faults s.no_frames)) (sym none)
       (take-busy s.seat seat page raw s.pager.faults s.no_frames words found);
   counted = refl;
   stays = stays s seat None words;
-  uses = (none_leaves s seat None, tried);
+  uses = (none_leaves s seat None, sym none, found);
 }
 
 pub step_give : (s : StorageState) (h k : HeldState) (page : ℕ) (code : Order) (old : Old) → IsStorage s → s.held ≡ Some h → held_page s.held ≡ Some page →
@@ -211,35 +222,46 @@ stays_touched s words pool hosts seat pager held nf before after calls = record 
   pager = calls;
 }
 
+leaves_host : (s : StorageState) (hosts : List Seated) (seat : PoolSeatView) (pager : FailurePlan) (held : Option HeldState) (nf : ℕ) →
+    LeavesSupply s.hosts hosts s.pool seat s.pager pager → LeavesHost s (with_all s s.seat hosts seat pager held nf)
+leaves_host s hosts seat pager held nf leaves = record { hosts = leaves.0; pool = leaves.1; pager = leaves.2 }
+
 pub step_touch-ok : (s : StorageState) (words : List WordsView) (pool : PoolId) (hosts : List Seated) (seat : PoolSeatView) (pager : FailurePlan) (h k : HeldState) (page : ℕ) → s.held ≡ Some h →
     held_page s.held ≡ Some page → CanReclaim words pool s.hosts s.pool → CanReclaim words pool hosts seat → PagerCalled s.pager pager → s.pager.faults ≤ pager.faults → IsHeldPage k → IsTouched h k →
-    is_discarded h.word ≡ false → BoundStep s (Touch page (Ok tt)) (with_all s s.seat hosts seat pager (Some k) s.no_frames)
-step_touch-ok s words pool hosts seat pager h k page held at before after calls falls is touched there = record {
+    is_discarded h.word ≡ false → (is_resident h.word.content ≡ true → LeavesSupply s.hosts hosts s.pool seat s.pager pager) →
+    BoundStep s (Touch page (Ok tt)) (with_all s s.seat hosts seat pager (Some k) s.no_frames)
+step_touch-ok s words pool hosts seat pager h k page held at before after calls falls is touched there resident = record {
   follows = at-call (λ q p. Follows (seen_of s.seat q s.pager.faults s.no_frames) (Touch p (Ok tt)) (seen_of s.seat (Some k) pager.faults s.no_frames)) s.held h page held at
       (touch-ok s.seat h k s.pager.faults pager.faults s.no_frames is touched there falls);
   counted = refl;
   stays = stays_touched s words pool hosts seat pager (Some k) s.no_frames before after calls;
-  uses = refl;
+  uses = (
+    refl,
+    (λ x e. (k, refl, subst (λ (q : HeldState). IsTouched q k) (same_Some h x (sym held ∙ e)) touched)),
+    (λ r. leaves_host s hosts seat pager (Some k) s.no_frames (resident (ap (λ (q : Option HeldState). is_resident (content_of q)) (sym held) ∙ r))),
+  );
 }
 
-uses_trapped : (s : StorageState) (hosts : List Seated) (seat : PoolSeatView) (pager : FailurePlan) (held : Option HeldState) (nf page : ℕ) (t : Trap) →
-    SearchCause t s.guest page s.hosts hosts s.pool.dry seat.dry → Uses s (Touch page (Err t)) (with_all s s.seat hosts seat pager held nf)
-uses_trapped s hosts seat pager held nf page Discarded cause = refl
-uses_trapped s hosts seat pager held nf page Paging cause = refl
-uses_trapped s hosts seat pager held nf page (NoFrame looks) cause = (refl, cause)
+uses_trapped : (s : StorageState) (hosts : List Seated) (seat : PoolSeatView) (pager : FailurePlan) (h k : HeldState) (nf page : ℕ) (t : Trap) → s.held ≡ Some h → k ≡ h →
+    TrapCause t h s.pager.faults pager.faults → (is_discarded h.word ≡ true → LeavesSupply s.hosts hosts s.pool seat s.pager pager) →
+    SearchCause t s.guest page s.hosts hosts s.pool.dry seat.dry → Uses s (Touch page (Err t)) (with_all s s.seat hosts seat pager (Some k) nf)
+uses_trapped s hosts seat pager h k nf page Discarded held same cause discarded searched =
+    (refl, ap (λ (q : HeldState). Some q) same ∙ sym held, leaves_host s hosts seat pager (Some k) nf (discarded cause))
+uses_trapped s hosts seat pager h k nf page Paging held same cause discarded searched = (refl, ap (λ (q : HeldState). Some q) same ∙ sym held)
+uses_trapped s hosts seat pager h k nf page (NoFrame looks) held same cause discarded searched = (refl, ap (λ (q : HeldState). Some q) same ∙ sym held, searched)
 
 pub step_touch-trapped : (s : StorageState) (words : List WordsView) (pool : PoolId) (hosts : List Seated) (seat : PoolSeatView) (pager : FailurePlan) (h k : HeldState) (page nf : ℕ) (t : Trap) →
     IsStorage s → s.held ≡ Some h → held_page s.held ≡ Some page → CanReclaim words pool s.hosts s.pool → CanReclaim words pool hosts seat → PagerCalled s.pager pager → s.pager.faults ≤ pager.faults →
     k ≡ h →
     TrapCause t h s.pager.faults pager.faults → SearchCause t s.guest page s.hosts hosts s.pool.dry seat.dry → nf ≡ raised_at (Err t) s.no_frames →
-    BoundStep s (Touch page (Err t)) (with_all s s.seat hosts seat pager (Some k) nf)
-step_touch-trapped s words pool hosts seat pager h k page nf t is held at before after calls falls same cause search counts = record {
+    (is_discarded h.word ≡ true → LeavesSupply s.hosts hosts s.pool seat s.pager pager) → BoundStep s (Touch page (Err t)) (with_all s s.seat hosts seat pager (Some k) nf)
+step_touch-trapped s words pool hosts seat pager h k page nf t is held at before after calls falls same cause searched counts discarded = record {
   follows = at-call (λ q p. Follows (seen_of s.seat q s.pager.faults s.no_frames) (Touch p (Err t)) (seen_of s.seat (Some k) pager.faults nf)) s.held h page held at
       (subst (λ (q : HeldState). Follows (seen_of s.seat (Some h) s.pager.faults s.no_frames) (Touch h.page (Err t)) (seen_of s.seat (Some q) pager.faults nf)) (sym same)
       (touch-trapped s.seat h t s.pager.faults pager.faults s.no_frames nf (is.sound h held) cause falls is.few counts));
   counted = counts;
   stays = stays_touched s words pool hosts seat pager (Some k) nf before after calls;
-  uses = uses_trapped s hosts seat pager (Some k) nf page t search;
+  uses = uses_trapped s hosts seat pager h k nf page t held same cause discarded searched;
 }
 
 -- the storage stays bound where the host's side does
@@ -325,12 +347,13 @@ pub step_touch : (s : StorageState) (words : List WordsView) (pool : PoolId) (ho
     (answer : Result Unit Trap) →
     IsStorage s → s.held ≡ Some h → held_page s.held ≡ Some page → CanReclaim words pool s.hosts s.pool → CanReclaim words pool hosts seat → PagerCalled s.pager pager → s.pager.faults ≤ pager.faults →
     TouchMakes answer h k → TouchCause answer h s.pager.faults pager.faults s.guest page s.hosts hosts s.pool.dry seat.dry → nf ≡ raised_at answer s.no_frames →
+    (is_discarded h.word ≡ true → LeavesSupply s.hosts hosts s.pool seat s.pager pager) → (is_resident h.word.content ≡ true → LeavesSupply s.hosts hosts s.pool seat s.pager pager) →
     BoundStep s (Touch page answer) (with_all s s.seat hosts seat pager (Some k) nf)
-step_touch s words pool hosts seat pager h k page nf (Ok done) is held at before after calls falls (touched, sound, there) cause counts =
+step_touch s words pool hosts seat pager h k page nf (Ok done) is held at before after calls falls (touched, sound, there) cause counts discarded resident =
     subst (λ (n : ℕ). BoundStep s (Touch page (Ok done)) (with_all s s.seat hosts seat pager (Some k) n)) (sym counts)
-    (step_touch-ok s words pool hosts seat pager h k page held at before after calls falls sound touched there)
-step_touch s words pool hosts seat pager h k page nf (Err trap) is held at before after calls falls same (cause, search) counts =
-    step_touch-trapped s words pool hosts seat pager h k page nf trap is held at before after calls falls same cause search counts
+    (step_touch-ok s words pool hosts seat pager h k page held at before after calls falls sound touched there resident)
+step_touch s words pool hosts seat pager h k page nf (Err trap) is held at before after calls falls same (cause, searched) counts discarded resident =
+    step_touch-trapped s words pool hosts seat pager h k page nf trap is held at before after calls falls same cause searched counts discarded
 
 pub own_there : (words : List WordsView) (pool : PoolId) (s : StorageState) → IsBoundTo words pool s → is_some (slice_get words s.guest) ≡ true
 own_there words pool s b = ap is_some b.guest

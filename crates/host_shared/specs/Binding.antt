@@ -1,11 +1,12 @@
 -- A guest's storage over shared words: what it keeps between two turns, what the guest sees of it, and what each call does.
-use Rattle.std.specs.Prelude.{◌≡◌, ℕ, ◌+◌, ◌<◌, ◌^◌, ◌==◌, List, [], ◌∷◌, ◌++◌, map, Bool, true, false, Option, Some, None, Result, Ok, Err, is_err, slice_get, if◌then◌else◌}
+use Rattle.std.specs.Prelude.{◌≡◌, ℕ, ◌+◌, ◌<◌, ◌^◌, ◌==◌, List, [], ◌∷◌, ◌++◌, map, Bool, true, false, Option, Some, None, Result, Ok, Err, slice_get, if◌then◌else◌}
 use Rattle.std.specs.List.{sum_by}
 use Rattle.std.specs.Option.{option_map}
 use Rattle.cmm_types.specs.declared.page.Content.{Content}
 use Rattle.cmm_types.specs.declared.page.Content.TheVariants.{Zero}
 use Rattle.cmm_io.specs.FailurePlan.{FailurePlan}
 use Rattle.cmm_io.specs.Faults.{raised}
+use Rattle.essa_state.specs.StateWord.{is_resident}
 use Rattle.essa_state.specs.PageValue.{PageValue}
 use Rattle.essa_state.specs.PageBody.{actual}
 use Rattle.cmm_storage.specs.declared.storage.Trap.{Trap}
@@ -14,10 +15,10 @@ use Rattle.cmm_storage.specs.StorageCall.{StorageCall, Take, Touch, Give, TakeCh
 use Rattle.cmm_storage.specs.StorageView.{StorageView, Follows}
 use Rattle.state_words.specs.SeatView.{Hold, SeatStep, Looked, Tried, Left, Moved, WordsView, Seated, IsGuestSeat, value_at, guest_values}
 use Rattle.state_words.specs.Accesses.{Leads}
-use Rattle.state_words.specs.Steps.{HasTried}
+use Rattle.state_words.specs.Steps.{FindsBusy, claimed_view}
 use Rattle.frame_pool.specs.Seats.{PoolId, PoolSeatView}
 use Rattle.host_shared.specs.Bodies.{lent_body, body_house}
-use Rattle.host_shared.specs.Holding.{HeldState, IsHeldPage}
+use Rattle.host_shared.specs.Holding.{HeldState, IsHeldPage, IsTouched}
 use Rattle.host_shared.specs.Reclaiming.{CanReclaim}
 use Rattle.host_shared.specs.Searching.{FoundNone}
 use Rattle.host_shared.specs.PagerCalls.{PagerCalled}
@@ -121,13 +122,29 @@ pub record LeavesHost (s t : StorageState) : Type 0 where
   pub pool : t.pool ≡ s.pool
   pub pager : t.pager ≡ s.pager
 
--- only a touch needs the host. A take is one claim in the record of the guest's seat, and where a touch found no frame each
--- page word but the held one was looked at
+-- the one claim of a good take found the page free, and its word and body are held as they were found
+pub record TakesFound (page : ℕ) (s t : StorageState) : Type 0 where
+  pub held : HeldState
+  pub is_held : t.held ≡ Some held
+  pub of_page : held.page ≡ page
+  pub free : held.word.busy ≡ false
+  pub untouched : held.touched ≡ false
+  pub claimed : t.seat.view ≡ claimed_view s.seat.view page held.word (lent_body held.parts)
+
+-- the held page is as a good touch makes it: resident, and used
+abbrev pub HoldsTouched : StorageState → StorageState → Type 0
+HoldsTouched s t = (h : HeldState) → s.held ≡ Some h → (k : HeldState) × (t.held ≡ Some k) × IsTouched h k
+
+-- only a touch needs the host, and not for a page that is resident or discarded. After a trap the held page is as before. A
+-- take is one claim in the record of the guest's seat, and where that found the page busy the answer is the word that it
+-- found. Where a touch found no frame each page word but the held one was looked at
 abbrev pub Uses : StorageState → StorageCall → StorageState → Type 0
-Uses s (Take page answer) t = LeavesHost s t × HasTried page s.seat.view (is_err answer) t.seat.view
-Uses s (Touch page (Ok done)) t = t.seat ≡ s.seat
-Uses s (Touch page (Err (NoFrame looks))) t = (t.seat ≡ s.seat) × FoundNone s.guest page s.hosts t.hosts s.pool.dry t.pool.dry looks
-Uses s (Touch page (Err trap)) t = t.seat ≡ s.seat
+Uses s (Take page (Ok got)) t = LeavesHost s t × TakesFound page s t
+Uses s (Take page (Err busy)) t = LeavesHost s t × (t.held ≡ s.held) × FindsBusy page s.seat.view busy.word t.seat.view
+Uses s (Touch page (Ok done)) t = (t.seat ≡ s.seat) × HoldsTouched s t × (is_resident (content_of s.held) ≡ true → LeavesHost s t)
+Uses s (Touch page (Err Discarded)) t = (t.seat ≡ s.seat) × (t.held ≡ s.held) × LeavesHost s t
+Uses s (Touch page (Err Paging)) t = (t.seat ≡ s.seat) × (t.held ≡ s.held)
+Uses s (Touch page (Err (NoFrame looks))) t = (t.seat ≡ s.seat) × (t.held ≡ s.held) × FoundNone s.guest page s.hosts t.hosts s.pool.dry t.pool.dry looks
 Uses s (Give page code old) t = LeavesHost s t × (t.seat ≡ s.seat)
 Uses s (TakeChange page changed) t = LeavesHost s t × (t.seat ≡ s.seat)
 Uses s (Fetch page off bytes) t = t ≡ s

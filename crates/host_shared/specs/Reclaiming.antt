@@ -41,9 +41,9 @@ pub record Reclaims (outcome : Outcome) (page : ℕ) (urgent : Bool) (v w : Seat
   pub steps : w.steps ≡ v.steps ++ look_steps look
   pub cause : HasCause outcome urgent look faults risen
 
--- a look by some reclaim
-abbrev pub IsReclaim : (urgent : Bool) → Look → Type 0
-IsReclaim urgent l = (outcome : Outcome) × (faults : ℕ) × (risen : ℕ) × HasCause outcome urgent l faults risen
+-- a look by some reclaim, in which the pager's faults rose at most from and to these
+abbrev pub IsReclaim : (urgent : Bool) → (faults risen : ℕ) → Look → Type 0
+IsReclaim urgent faults risen l = (outcome : Outcome) × HasCause outcome urgent l faults risen
 
 -- how many frames the answer tells of
 abbrev pub freed_of : Outcome → ℕ
@@ -83,8 +83,9 @@ pub record CanReclaim (words : List WordsView) (pool : PoolId) (seats : List Sea
   pub of_pool : seat.pool ≡ pool
   pub housed : All (λ w. w.house ≡ pool.table) words
 
--- each guest's seat looked at each of the guest's pages once, in their order, and so many frames were freed
-pub record Passes (old new : List Seated) (freed : ℕ) : Type 0 where
+-- each guest's seat looked at each of the guest's pages once, in their order, while the pager's faults rose from and to these,
+-- and so many frames were freed
+pub record Passes (old new : List Seated) (faults risen freed : ℕ) : Type 0 where
   pub each : (guest : ℕ) (d : Seated) → guest < length old →
-      GrewByLooks (IsReclaim false) (pages_but None 0 (slice_index_or old guest d).words.pages) (slice_index_or old guest d).view (slice_index_or new guest d).view
+      GrewByLooks (IsReclaim false faults risen) (pages_but None 0 (slice_index_or old guest d).words.pages) (slice_index_or old guest d).view (slice_index_or new guest d).view
   pub freed_is : freed + freed_in_all old ≡ freed_in_all new

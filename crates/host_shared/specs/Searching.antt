@@ -2,14 +2,27 @@
 use Rattle.std.specs.Prelude.{◌≡◌, ◌⊎◌, ℕ, ◌+◌, ◌-◌, ◌<◌, ◌≤◌, ◌==◌, List, ◌++◌, length, true, false, Option, Some, None, if◌then◌else◌, slice_index_or}
 use Rattle.std.specs.List.{sum_by}
 use Rattle.essa_state.specs.StateWord.{is_resident}
+use Rattle.essa_state.specs.Moves.{reclaiming}
 use Rattle.cmm_storage.specs.declared.storage.Trap.{Trap}
 use Rattle.cmm_storage.specs.declared.storage.Trap.TheVariants.{Discarded, Paging, NoFrame}
 use Rattle.state_words.specs.SeatView.{SeatStep, Looked, Tried, Left, Moved, SeatView, Seated}
-use Rattle.host_shared.specs.Looks.{Look, GrewByLooks, pages_but, freed_by, freed_in, freed_in_all}
+use Rattle.host_shared.specs.Looks.{Look, GrewByLooks, pages_but, freed_in, freed_in_all}
+use Rattle.host_shared.specs.Reclaiming.{IsToMove}
 
--- the look found the page busy or not resident, or it freed its frame
+-- the page isn't resident, and goes back as it was found
+pub record LeavesPage (l : Look) : Type 0 where
+  pub free : l.word.busy ≡ false
+  pub absent : is_resident l.word.content ≡ false
+  pub as_found : l.action ≡ None
+
+-- the page's frame is freed, by the move for its word, whether the page was used or not
+pub record FreesFrame (l : Look) : Type 0 where
+  pub urgent : IsToMove true l.word (reclaiming l.word)
+  pub moved : l.action ≡ Some (reclaiming l.word)
+
+-- an urgent reclaim that found the page busy, or left it, or freed its frame
 abbrev pub FindsNothing : Look → Type 0
-FindsNothing l = (l.word.busy ≡ true) ⊎ (is_resident l.word.content ≡ false) ⊎ (freed_by l.action ≡ 1)
+FindsNothing l = (l.word.busy ≡ true) ⊎ LeavesPage l ⊎ FreesFrame l
 
 abbrev pub tried_at : SeatStep → ℕ
 tried_at (Looked page word) = 0

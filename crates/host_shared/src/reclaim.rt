@@ -152,7 +152,7 @@ fn reclaim_guest<P: Pager<Block = MemBlock>, G: Gate>(
     ensures words { seat.new.words ≡ seat.old.words }
     ensures none_held { seat.new.view.held ≡ None }
     ensures faults { P.faults pager.old ≤ P.faults pager.new }
-    ensures looks { GrewByLooks (IsReclaim false) (pages_but None 0 words.now.pages) seat.old.view seat.new.view }
+    ensures looks { GrewByLooks (IsReclaim false (P.faults pager.old) (P.faults pager.new)) (pages_but None 0 words.now.pages) seat.old.view seat.new.view }
     ensures freed { result + freed_in seat.old.view ≡ freed_in seat.new.view }
     ensures few { result ≤ words.now.pages }
     ensures given { pool_seat.new ≡ given_more pool_seat.old result }
@@ -181,7 +181,7 @@ pub fn reclaim_pass<P: Pager<Block = MemBlock>, G: Gate>(
     requires few { sum_by (λ w. w.pages) words.now < 2 ^ 32 }
     ensures can { CanReclaim words.now pool.now seats.new pool_seat.new }
     ensures faults { P.faults pager.old ≤ P.faults pager.new }
-    ensures passes { Passes seats.old seats.new result }
+    ensures passes { Passes seats.old seats.new (P.faults pager.old) (P.faults pager.new) result }
     ensures given { pool_seat.new ≡ given_more pool_seat.old result }
 {
     let mut freed = 0;

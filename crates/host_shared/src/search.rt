@@ -5,7 +5,7 @@ ghost use Rattle.cmm_io.specs.Faults.{HasRisen};
 ghost use Rattle.essa_state.specs.StateWord.{is_resident, is_preserved, is_discarded};
 ghost use Rattle.cmm_storage.specs.declared.storage.Trap.TheVariants.{Paging};
 ghost use Rattle.host_shared.specs.Bodies.{IsOfHouse, body_house};
-ghost use Rattle.host_shared.specs.Touching.{TouchMakes, TouchCause};
+ghost use Rattle.host_shared.specs.Touching.{TouchMakes, TouchCause, LeavesSupply};
 ghost use Rattle.state_words.specs.SeatView.{SeatView, WordsView, Seated};
 ghost use Rattle.host_shared.specs.Looks.{pages_but, is_page};
 ghost use Rattle.host_shared.specs.Reclaiming.{CanLook, CanReclaim, Reclaims};
@@ -461,6 +461,8 @@ impl Supply {
         ensures keeps { KeepsSupply self.old self.new }
         ensures makes { TouchMakes result held.old held.new }
         ensures cause { TouchCause result held.old self.old.pager.faults self.new.pager.faults spot.guest spot.page hosts.old hosts.new self.old.seat.dry self.new.seat.dry }
+        ensures discarded { is_discarded held.old.word ≡ true → LeavesSupply hosts.old hosts.new self.old.seat self.new.seat self.old.pager self.new.pager }
+        ensures resident { is_resident held.old.word.content ≡ true → LeavesSupply hosts.old hosts.new self.old.seat self.new.seat self.old.pager self.new.pager }
     {
         if held.is_discarded() {
             return Err(Trap::Discarded);

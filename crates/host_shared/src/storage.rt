@@ -103,6 +103,8 @@ impl WordStorage {
         ensures hosts { result.1.items ≡ self.hosts }
         ensures pool { result.2 ≡ self.pool }
         ensures pager { result.3 ≡ self.pager }
+        ensures guest { IsGuestSeat result.0 }
+        ensures none_held { result.0.view.held ≡ None }
     {
         let WordStorage {
             guest: _,

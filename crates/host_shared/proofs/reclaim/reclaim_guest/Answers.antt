@@ -13,7 +13,8 @@ loop-page-preserved g c =
       search rules,
       search rules,
       search (rules, arith),
-      pass_more c.loop-page.page c.args.seat.now.view c.loop-page.seat.view c.reclaim_page-outcome.new.seat.view c.reclaim_page-outcome.result _ _ c.loop-page.invariant.3 one,
+      pass_more c.loop-page.page c.args.seat.now.view c.loop-page.seat.view c.reclaim_page-outcome.new.seat.view c.reclaim_page-outcome.result _ _ _ c.loop-page.invariant.2
+          c.reclaim_page-outcome.ensures.faults c.loop-page.invariant.3 one,
       omega (arith, freed, c.loop-page.invariant.4, count),
       omega (arith, c.loop-page.invariant.5, c.freed_of-freed.ensures.few),
       given_on c.args.pool_seat.now c.loop-page.pool_seat c.reclaim_page-outcome.new.pool_seat c.loop-page.freed c.freed_of-freed.result c.loop-page.invariant.6

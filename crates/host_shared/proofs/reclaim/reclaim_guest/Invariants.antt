@@ -8,7 +8,7 @@ invariant-loop-page g l =
     (l.seat.words ≡ l.fn.seat.words)
     × (l.seat.view.held ≡ None)
     × (g.P.Pager.faults l.fn.pager ≤ g.P.Pager.faults l.pager)
-    × GrewByLooks (IsReclaim false) (pages_but None 0 l.page) l.fn.seat.view l.seat.view
+    × GrewByLooks (IsReclaim false (g.P.Pager.faults l.fn.pager) (g.P.Pager.faults l.pager)) (pages_but None 0 l.page) l.fn.seat.view l.seat.view
     × (l.freed + freed_in l.fn.seat.view ≡ freed_in l.seat.view)
     × (l.freed ≤ l.page)
     × (l.pool_seat ≡ given_more l.fn.pool_seat l.freed)

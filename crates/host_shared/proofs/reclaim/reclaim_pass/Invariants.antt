@@ -8,6 +8,6 @@ abbrev pub invariant-loop-guest : goal.invariant-loop-guest
 invariant-loop-guest g l =
     CanReclaim l.words l.pool l.seats l.pool_seat
     × (g.P.Pager.faults l.fn.pager ≤ g.P.Pager.faults l.pager)
-    × PassedBelow l.guest l.fn.seats l.seats l.freed
+    × PassedBelow l.guest l.fn.seats l.seats (g.P.Pager.faults l.fn.pager) (g.P.Pager.faults l.pager) l.freed
     × (l.freed ≤ sum_by (λ w. w.pages) (take l.guest l.words))
     × (l.pool_seat ≡ given_more l.fn.pool_seat l.freed)

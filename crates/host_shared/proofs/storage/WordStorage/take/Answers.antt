@@ -43,7 +43,7 @@ returns-in-Ok-clause-step c =
     let none : s.held ≡ None = subst (λ (q : StorageState). q.held ≡ None) (sym c.self.view_is) c.requires.none_held in
     let permitted : is_permitted c.in-Ok.found.0 ≡ true = ap (λ (q : HeldState). is_permitted q.word) (sym made) ∙ c.new.ensures.sound.permitted in
     subst (λ (q : StorageState). BoundStep q (Take c.args.page (Ok tt)) (with_seat s seat (Some h))) c.self.view_is
-    (step_take-ok s seat c.args.page c.in-Ok.found.0 c.in-Ok.found.1 h none permitted c.in-Ok.ensures.free c.in-Ok.ensures.value c.in-Ok.ensures.words c.in-Ok.ensures.taken c.in-Ok.ensures.tried made)
+    (step_take-ok s seat c.args.page c.in-Ok.found.0 c.in-Ok.found.1 h none permitted c.in-Ok.ensures.free c.in-Ok.ensures.value c.in-Ok.ensures.words c.in-Ok.ensures.taken made)
 
 pub returns-in-Ok-clause-bound : goal.returns-in-Ok-clause-bound
 returns-in-Ok-clause-bound c =
@@ -67,7 +67,7 @@ returns-in-Err-clause-step c =
     let none : s.held ≡ None = subst (λ (q : StorageState). q.held ≡ None) (sym c.self.view_is) c.requires.none_held in
     subst (λ (q : StorageState). BoundStep q (Take c.args.page (Err c.in-Err.busy)) (with_seat s seat s.held)) c.self.view_is
     (subst (λ (q : Option HeldState). BoundStep s (Take c.args.page (Err c.in-Err.busy)) (with_seat s seat q)) (sym none)
-    (step_take-busy s seat c.args.page c.in-Err.busy.word none c.in-Err.ensures.words c.in-Err.ensures.busy c.in-Err.ensures.tried))
+    (step_take-busy s seat c.args.page c.in-Err.busy.word none c.in-Err.ensures.words c.in-Err.ensures.busy))
 
 pub returns-in-Err-clause-bound : goal.returns-in-Err-clause-bound
 returns-in-Err-clause-bound c =

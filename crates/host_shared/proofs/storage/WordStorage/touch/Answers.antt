@@ -1,13 +1,13 @@
-use Rattle.std.specs.Prelude.{◌≡◌, List, Some, false}
+use Rattle.std.specs.Prelude.{◌≡◌, List, Some, true, false}
 use Rattle.std.specs.Vec.{with_items}
 use Rattle.std.proofs.Common.{rules, refl, sym, subst, ◌∙◌}
 use Rattle.cmm_storage.specs.StorageCall.{Touch}
-use Rattle.essa_state.specs.StateWord.{is_unused}
+use Rattle.essa_state.specs.StateWord.{is_resident, is_discarded, is_unused}
 use Rattle.state_words.specs.SeatView.{Seated}
 use Rattle.host_shared.specs.Holding.{HeldState}
 use Rattle.host_shared.specs.Reclaiming.{CanReclaim}
 use Rattle.host_shared.specs.Binding.{StorageState, held_page, storage_view, BoundStep, IsBoundTo}
-use Rattle.host_shared.specs.Touching.{TouchCause}
+use Rattle.host_shared.specs.Touching.{TouchCause, LeavesSupply}
 use Rattle.host_shared.specs.contracts.storage.WordStorage.{the_view}
 use Rattle.host_shared.proofs.Seats.{refilled}
 use Rattle.host_shared.proofs.Stepping.{with_all, step_touch, sound_touched, bound_on, own_house}
@@ -44,6 +44,12 @@ returns-clause-step c =
     subst (λ (q : List Seated). TouchCause c.touch-answer.result h s.pager.faults c.touch-answer.new.self.pager.faults s.guest c.args.page q c.touch-answer.new.hosts s.pool.dry
     c.touch-answer.new.self.seat.dry)
     sliced made.cause in
+    let discarded : is_discarded h.word ≡ true → LeavesSupply s.hosts c.touch-answer.new.hosts s.pool c.touch-answer.new.self.seat s.pager c.touch-answer.new.self.pager =
+    subst (λ (q : List Seated). is_discarded h.word ≡ true → LeavesSupply q c.touch-answer.new.hosts s.pool c.touch-answer.new.self.seat s.pager c.touch-answer.new.self.pager)
+    sliced made.discarded in
+    let resident : is_resident h.word.content ≡ true → LeavesSupply s.hosts c.touch-answer.new.hosts s.pool c.touch-answer.new.self.seat s.pager c.touch-answer.new.self.pager =
+    subst (λ (q : List Seated). is_resident h.word.content ≡ true → LeavesSupply q c.touch-answer.new.hosts s.pool c.touch-answer.new.self.seat s.pager c.touch-answer.new.self.pager)
+    sliced made.resident in
     subst (λ (q : List Seated). BoundStep c.args.self.now (Touch c.args.page c.touch-answer.result)
     (with_all s s.seat q c.touch-answer.new.self.seat c.touch-answer.new.self.pager (Some k) c.counted-self-inside.result))
     (sym back)
@@ -51,7 +57,7 @@ returns-clause-step c =
     (with_all s s.seat c.touch-answer.new.hosts c.touch-answer.new.self.seat c.touch-answer.new.self.pager (Some k) c.counted-self-inside.result)) c.self.view_is
     (step_touch s c.args.words.now c.args.pool.now c.touch-answer.new.hosts c.touch-answer.new.self.seat c.touch-answer.new.self.pager h k c.args.page c.counted-self-inside.result
     c.touch-answer.result c.self.invariant held at b.can made.can
-    made.keeps.calls made.keeps.faults made.makes cause c.counted-self-inside.ensures))
+    made.keeps.calls made.keeps.faults made.makes cause c.counted-self-inside.ensures discarded resident))
 
 pub returns-clause-bound : goal.returns-clause-bound
 returns-clause-bound c =
