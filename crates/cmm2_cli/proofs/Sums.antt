@@ -15,7 +15,6 @@ use Rattle.cmm_flat.specs.Laws.CommandLaws.{all_commands-bound}
 use Rattle.cmm_types.specs.NoPlan.{no_plan}
 use Rattle.cmm_world.specs.WorldState.{WorldState, guest_at}
 use Rattle.cmm_world.specs.WorldView.{WorldView, plans_of, discards_of}
-use Rattle.cmm_world.proofs.Discards.{faults_few}
 use Rattle.cmm2_cli.specs.Playing.{HasPlayed}
 use Rattle.cmm2_cli.specs.Reports.{guest_report}
 use Rattle.cmm2_cli.specs.Demo.{entries_in_all, discards_in_all, faults_in_all}
@@ -43,12 +42,13 @@ few plan v guest range has below =
     let w = v.state in
     let plans : plans_of w ≡ plan.guests = ap plans_of has.state ∙ has.legal.plans in
     let count : length w.guests ≡ length plan.guests = sym (length-map w.guests (λ (g : GuestState). g.plan)) ∙ ap (λ (ps : List GuestPlan). length ps) plans in
+    let within : guest < length plan.guests = omega (arith, below, count) in
     let its : GuestInRange (guest_at w guest).plan =
     subst GuestInRange (sym (ap (λ ps. slice_index_or ps guest no_plan) plans) ∙ get_or-map (λ (g : GuestState). g.plan) w.guests guest (opening_guest no_plan) no_plan below)
-    (range.guests.each guest no_plan (omega (arith, below, count))) in
+    (range.guests.each guest no_plan within) in
     record {
       entries = omega (arith, legal-most (guest_at w guest).plan (guest_at w guest).journal (has.fit guest below).journal.legal, all_commands-bound (guest_at w guest).plan its);
-      faults = faults_few w guest has.fit below;
+      faults = subst (λ (x : WorldState). (guest_at x guest).parts.faults ≤ discards_of x guest) (sym has.state) (has.legal.faults guest within);
     }
 
 pub sums_next : (w : WorldState) (guest entries discards faults : ℕ) → AreSums w guest entries discards faults → IsFew w guest → discards_of w guest ≤ MAX_GUEST_PAGES * 2 ^ 32

@@ -1,7 +1,3 @@
-ghost use Rattle.std.specs.Prelude.{◌≡◌, ◌<◌, All, IfOk, length};
-ghost use Rattle.cmm_types.specs.InRange.{EventInRange, ScenarioInRange};
-ghost use Rattle.cmm_world.specs.WorldView.{plans_of};
-
 use crate::World;
 use cmm_io::Disk;
 use cmm_types::{
@@ -67,14 +63,6 @@ fn map_file() -> Op {
     }
 }
 
-#[tactic(auto, using(crate::proofs::LegalRuns::plans_opening))]
-fn open(alloc: Global, plan: &Scenario) -> Result<World, AllocError>
-    requires { ScenarioInRange plan.now }
-    ensures { IfOk result (λ world. plans_of world.state ≡ plan.now.guests) }
-{
-    World::open(alloc, plan)
-}
-
 /// The first byte of block 0 of the first guest's disk, and the usage of the guest's page 0.
 fn seen(world: &World) -> (Option<u8>, Option<Usage>) {
     if world.guests() == 0 {
@@ -97,7 +85,7 @@ fn played(
     if !plan.is_in_range() {
         return Ok((false, None, None));
     }
-    let mut world = open(alloc, plan)?;
+    let mut world = World::open(alloc, plan)?;
     let mut answers = Vec::new(alloc);
     for event in plan.schedule.as_slice() {
         answers.push(world.event(event))?;

@@ -1,6 +1,7 @@
 ghost use Rattle.std.specs.Prelude.{◌≡◌, ◌≤◌, ◌<◌, ◌+◌, ◌++◌, length, map, All, IfOk};
 ghost use Rattle.cmm_types.specs.declared.event.Event.TheVariants.{Cpu, Alone as AloneEvent, Host as HostEvent, Reclaim};
 ghost use Rattle.cmm_types.specs.declared.event.Answer.TheVariants.{Turn as TurnAnswer, Alone as AloneAnswer};
+ghost use Rattle.cmm_types.specs.declared.plan.Scenario.{Scenario};
 ghost use Rattle.cmm_types.specs.declared.plan.TheConstants.{MAX_GUEST_PAGES};
 ghost use Rattle.cmm_types.specs.InRange.{EventInRange, ScenarioInRange};
 ghost use Rattle.cmm_world.specs.WorldState.{WorldState, guest_at, disk_at};
@@ -12,6 +13,7 @@ ghost use Rattle.cmm_world.specs.Steps.{IsStepByStep, AtEach};
 ghost use Rattle.cmm_world.specs.Reached.{ReachesPages};
 ghost use Rattle.cmm_world.specs.Lacking.{LacksRightly};
 ghost use Rattle.cmm_world.specs.Played.{PlaysEvent};
+ghost use Rattle.cmm_world.specs.Headline.{IsLegalRun};
 
 use crate::open::{open_disks, open_guests, open_host};
 use cmm_io::MemDisk;
@@ -61,6 +63,7 @@ impl World {
     pub fn open(alloc: Global, plan: &Scenario) -> Result<World, AllocError>
         requires { ScenarioInRange plan.now }
         ensures opening { IfOk result (λ world. world ≡ opening_view plan.now) }
+        ensures plans { IfOk result (λ world. plans_of world.state ≡ plan.now.guests) }
         ensures fit { IfOk result (λ world. WorldFit world.state) }
         ensures failures { IfOk result (λ world. WorldCounted world.state) }
     {
@@ -96,6 +99,9 @@ impl World {
         ensures lacks { AtEach LacksRightly self.old.state events.now }
 
         ensures kept { KeepsWorld self.old self.new }
+
+        // The run of a plan is legal, as a world plays it that was opened for that plan.
+        ensures legal { (plan : Scenario) → self.old ≡ opening_view plan → events.now ≡ plan.schedule → IsLegalRun plan }
     {
         self.fits();
         for event in events {

@@ -3,7 +3,9 @@ use Rattle.guest_rules.specs.GuestState.{opening_guest}
 use Rattle.cmm_io.specs.DiskState.{opening_disk}
 use Rattle.cmm_world.specs.WorldState.{WorldState, opening_world}
 use Rattle.cmm_world.specs.WorldFit.{IsWorld}
+use Rattle.cmm_world.specs.WorldView.{plans_of}
 use Rattle.cmm_world.proofs.OpeningWorld.{opening_fits, opening_parts}
+use Rattle.cmm_world.proofs.LegalRuns.{plans_opening}
 use Rattle.cmm_world.proofs.world.World.open.Goals as goal
 
 abbrev opened : goal.In_ok-host → WorldState
@@ -27,6 +29,9 @@ returns-clause-opening c =
     let events : c.len-events.result ≡ length c.args.plan.now.schedule = c.len-events.ensures in
     let answers : c.in_ok-answers.answers.items ≡ [] = c.in_ok-answers.ensures.items in
     λ i. record { state = state c i; answers = answers i; events = events i }
+
+pub returns-clause-plans : goal.returns-clause-plans
+returns-clause-plans c = ap plans_of (state c) ∙ plans_opening c.args.plan.now
 
 pub returns-clause-fit : goal.returns-clause-fit
 returns-clause-fit c = (world c).fit
