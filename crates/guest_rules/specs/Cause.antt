@@ -20,7 +20,7 @@ use Rattle.cmm_flat.specs.Flat.{refusal_of}
 use Rattle.cmm_io.specs.Faults.{HasRisen}
 use Rattle.cmm_io.specs.DiskView.{DiskView}
 use Rattle.essa_state.specs.PageValue.{Bytes as BytesOf, is_lost, may_lose}
-use Rattle.cmm_storage.specs.StorageView.{StorageView}
+use Rattle.cmm_storage.specs.StorageView.{StorageView, Misses}
 use Rattle.guest_pages.specs.PagesView.{info_at}
 use Rattle.guest_cache.specs.CacheView.{page_of}
 use Rattle.guest_maps.specs.MapsView.{find_slot, slot_at, entry_at, pinned_at, tag_at}
@@ -276,7 +276,7 @@ abbrev pub AnswerCause : GuestState → StorageView → DiskView → ℕ → Tur
 AnswerCause g v d cpu Moved h w e = HasMoved g cpu h × SyncMoves g cpu h w e × RoomMoves g cpu h w e × TearMoves g cpu h
 AnswerCause g v d cpu Finished h w e = HasFinished g v d cpu h w e ⊎ HasTornDown g cpu h
 AnswerCause g v d cpu (Waits page owner) h w e = (h ≡ g) × (w ≡ v) × (e ≡ d) × WaitsFor g cpu page owner
-AnswerCause g v d cpu (Again why) h w e = HasToWait g v cpu h × (e ≡ d) × HasRisen v.misses w.misses
+AnswerCause g v d cpu (Again why) h w e = HasToWait g v cpu h × (e ≡ d) × Misses v w
 AnswerCause g v d cpu Idle h w e = (h ≡ g) × (w ≡ v) × (e ≡ d) × (command_of g.plan cpu (processor_at g cpu).place ≡ None)
 
 -- where the flat machine refuses the command that a turn in phase Start looks at, that refusal is entered, and nothing else changes

@@ -85,12 +85,12 @@ answer_causes g v w d e cpu h t f (waited op page owner starts its locked eh et 
         room = λ needing needs. absurd (has_its_page g cpu op needing page starts.has its needs);
       },
     )
-answer_causes g v w d e cpu h t f (missed op why has eh et may misses ee) = rw et (record { tables = inl eh; command = (op, has.command) }, ee, misses.risen)
+answer_causes g v w d e cpu h t f (missed op why has eh et may misses ee) = rw et (record { tables = inl eh; command = (op, has.command) }, ee, misses)
 answer_causes g v w d e cpu h t f (missed_rehinted why op tag page found after starts wants has eh et back may told misses ee) =
     rw et (
       record { tables = told_again g v page found.changed after h (found_changed g v d page tag found f has may told.there) eh told.tables; command = (op, starts.has.command) },
       ee,
-      misses.risen,
+      misses,
     )
 answer_causes g v w d e cpu h t f (was_begun op tag page rest found starts wants none free eh et back may value) =
     rw et (

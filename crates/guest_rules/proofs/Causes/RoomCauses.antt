@@ -117,7 +117,7 @@ room_causes g v w d e cpu op h t f (was_locked_to_go tag page found k goes back 
       locks_page g cpu op h w e tag page _ k goes eh,
       moves_on g h cpu op _ (AtRoom page) k.starts.has (seeks_no_unmap g cpu op k) eh tt,
     )
-room_causes g v w d e cpu op h t f (room_missed why k eh et may misses ee) = rw et (record { tables = inl eh; command = (op, k.starts.has.command) }, ee, misses.risen)
+room_causes g v w d e cpu op h t f (room_missed why k eh et may misses ee) = rw et (record { tables = inl eh; command = (op, k.starts.has.command) }, ee, misses)
 room_causes g v w d e cpu op h t f (room_waited page owner k none first locked eh et ew ee) =
     rw et (
       eh,
@@ -132,7 +132,7 @@ room_causes g v w d e cpu op h t f (room_waited page owner k none first locked e
     )
 room_causes g v w d e cpu op h t f (had_no_page k none unlocked eh et ew ee) =
     rw et (finished g v w d e cpu op g.parts (Fail _) h k.starts.has eh (no_page g cpu op v d f k none unlocked, ew, ee) tt)
-room_causes g v w d e cpu op h t f (page_out_missed tag page why k eh et may misses ee) = rw et (record { tables = inl eh; command = (op, k.has.command) }, ee, misses.risen)
+room_causes g v w d e cpu op h t f (page_out_missed tag page why k eh et may misses ee) = rw et (record { tables = inl eh; command = (op, k.has.command) }, ee, misses)
 room_causes g v w d e cpu op h t f (was_paged_out tag page bytes after k are written told eh et) =
     rw et (
       moved_phase g cpu op after Start h k.has eh,

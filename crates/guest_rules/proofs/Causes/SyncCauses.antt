@@ -161,7 +161,7 @@ sync_causes g v w d e cpu file index h t f (sync_waited page owner k locked eh e
         room = λ op needs. absurd (sync_needs_none g cpu file op k.has needs);
       },
     )
-sync_causes g v w d e cpu file index h t f (sync_missed why k eh et may misses ee) = rw et (record { tables = inl eh; command = (Sync file, k.has.command) }, ee, misses.risen)
+sync_causes g v w d e cpu file index h t f (sync_missed why k eh et may misses ee) = rw et (record { tables = inl eh; command = (Sync file, k.has.command) }, ee, misses)
 sync_causes g v w d e cpu file index h t f (sync_gone page found k has back may lost unused passes) =
     let after = handled g.parts page in
     passed_causes g w e cpu file index v d after h t f (look_passes g w e cpu file index after k
@@ -177,7 +177,7 @@ sync_causes g v w d e cpu file index h t f (was_locked page found k has back may
       syncs_on g h v w d e cpu file _ (SyncWrite index page) f k.has eh tt,
       moves_on g h cpu (Sync file) _ (SyncWrite index page) k.has (no_unmap file) eh tt,
     )
-sync_causes g v w d e cpu file index h t f (write_missed page why k eh et may misses ee) = rw et (record { tables = inl eh; command = (Sync file, k.has.command) }, ee, misses.risen)
+sync_causes g v w d e cpu file index h t f (write_missed page why k eh et may misses ee) = rw et (record { tables = inl eh; command = (Sync file, k.has.command) }, ee, misses)
 sync_causes g v w d e cpu file index h t f (was_written_back page bytes after k are written told passes) =
     passed_causes g w e cpu file index v d after h t f (written_passes g w e cpu file index v d page bytes after f k are written told) (has_passed g cpu file index after h t passes)
 sync_causes g v w d e cpu file index h t f (write_failed page cause after k back told why eh et) =

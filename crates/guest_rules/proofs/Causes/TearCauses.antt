@@ -143,7 +143,7 @@ pub tear_causes : (g : GuestState) (v w : StorageView) (d e : DiskView) (cpu slo
 tear_causes g v w d e cpu slot index h t f its (had_no_entry k none passes ew ee) =
     torn_past_causes g h cpu slot index g.parts v w d e t k (taken-none g v d cpu slot index f its k none) (is_past g cpu slot index g.parts h t passes)
 tear_causes g v w d e cpu slot index h t f its (tear_missed why k eh et may misses ee) =
-    rw et (record { tables = inl eh; command = (Unmap k.tearing.number, k.tearing.command) }, ee, misses.risen)
+    rw et (record { tables = inl eh; command = (Unmap k.tearing.number, k.tearing.command) }, ee, misses)
 tear_causes g v w d e cpu slot index h t f its (tear_gone tag pte found k entry has back may lost unused passes) =
     let after = handled g.parts pte.page in
     torn_past_causes g h cpu slot index after v w d e t k (taken-handled g v w d e cpu slot index tag pte found f its k entry has back may lost unused) (is_past g cpu slot index after h t passes)
@@ -173,7 +173,7 @@ tear_own_causes g v w d e cpu slot index h t f its (tear_waited page owner k fou
       },
     )
 tear_own_causes g v w d e cpu slot index h t f its (tear_own_missed why k eh et may misses ee) =
-    rw et (record { tables = inl eh; command = (Unmap k.tearing.number, k.tearing.command) }, ee, misses.risen)
+    rw et (record { tables = inl eh; command = (Unmap k.tearing.number, k.tearing.command) }, ee, misses)
 tear_own_causes g v w d e cpu slot index h t f its (was_torn_off page found k has back may unused passes) =
     let after = released (freed g.parts page) slot index in
     torn_past_causes g h cpu slot index after v w d e t k (taken-torn_off g v w d e cpu slot index page found f k its has back may unused) (is_past g cpu slot index after h t passes)
