@@ -23,6 +23,7 @@ use Rattle.cmm_world.specs.Lacking.{LacksPages}
 use Rattle.cmm_world.specs.Played.{PlaysEvent}
 use Rattle.cmm_world.proofs.Events.{plans_kept}
 use Rattle.cmm_world.proofs.Kept.{MovesKeep, kept_moves}
+use Rattle.cmm_world.proofs.NeverAgain.{never_again}
 use Rattle.cmm_world.proofs.TurnRuns.{AfterTurn, HasReached-none, LacksPages-none, discards_moves, with_turn}
 use Rattle.cmm_world.proofs.AloneRuns.{AfterAlone, step_turn}
 
@@ -46,6 +47,7 @@ plays w answers events event a x step steps causes reached lacks plans world = r
   step = sym step;
   steps = steps;
   causes = causes;
+  again = never_again w event causes;
   reached = subst (λ (q : Answer × WorldState). HasReached w q.1) (sym step) reached;
   lacks = subst (λ (q : Answer × WorldState). LacksPages w q.1) (sym step) lacks;
   kept = record { plans = plans; room = refl; fit = world.fit; failures = world.failures };
