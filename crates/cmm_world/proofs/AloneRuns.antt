@@ -34,10 +34,13 @@ use Rattle.cmm_world.specs.WorldFit.{IsWorld}
 use Rattle.cmm_world.specs.Run.{turned, turn_step, turns_on, turns_after, alone_step, world_step, answers_of, world_after}
 use Rattle.cmm_world.specs.Exec.{exec}
 use Rattle.cmm_world.specs.Steps.{NoWrongDiscards, NoStepDiscardsWrongly, IsStepByStep, turns_taken, step_answers}
+use Rattle.cmm_world.specs.Caused.{AloneIsCaused, IsCaused}
 use Rattle.cmm_world.specs.Reached.{HasReached}
 use Rattle.cmm_world.specs.Lacking.{LacksPages}
+use Rattle.cmm_world.proofs.Kept.{KeepsOthers}
 use Rattle.cmm_world.proofs.Unbound.{halfway}
-use Rattle.cmm_world.proofs.TurnRuns.{AfterTurn, Grows, Grows-same, Grows-trans, HasReached-none, HasReached-then, LacksPages-none, LacksPages-then, after_turn, with_turn, served_same}
+use Rattle.cmm_world.proofs.TurnRuns.{AfterTurn, Grows, Grows-same, Grows-trans, HasReached-none, HasReached-then, LacksPages-none, LacksPages-then}
+use Rattle.cmm_world.proofs.TurnRuns.{after_turn, between_worlds, run_keeps, with_turn, served_same}
 
 -- so many turns of a processor, as events
 abbrev pub turns_of : (guest cpu count : ℕ) → List Event
@@ -241,6 +244,7 @@ pub record AfterAlone (w : WorldState) (guest cpu : ℕ) (h : GuestState) (a : A
   pub step : ◌≡◌ {A = Answer × WorldState} (AloneAnswer a, with_turn w guest h k e) (world_step w (Alone guest cpu))
   pub world : IsWorld (with_turn w guest h k e)
   pub steps : IsStepByStep w (Alone guest cpu)
+  pub caused : IsCaused w (Alone guest cpu)
   pub reached : HasReached w (with_turn w guest h k e)
   pub lacks : LacksPages w (with_turn w guest h k e)
   pub plan : h.plan ≡ (guest_at w guest).plan
@@ -300,10 +304,15 @@ module _ {S D : Type 0} (ss : S → StorageCall → S → Type 0) (ds : D → Di
       let fit : Fit (guest_at w guest) (host_view (sv s)) (disk_view (dv d)) = rw (is_host, is_disk) (world.fit guest below) in
       let ran = does_seen ss ds (λ q. host_view (sv q)) (λ q. disk_view (dv q)) sf df (alone (guest_at w guest) cpu) s d (h, a) t e run in
       let cause = Causes-alone (guest_at w guest) cpu _ _ h a _ _ refl fit has_cpu ran in
+      let kept : KeepsOthers (sv s) (sv t) = run_keeps ss ds sv dv sm dm sf df sl (alone (guest_at w guest) cpu) s d (h, a) t e run in
+      let serves : (sv t).guest ≡ guest = kept.serves ∙ ap (λ (q : HostState). q.guest) is_host in
+      let caused : AloneIsCaused w (with_turn w guest h (sv t) (dv e)) guest cpu a =
+      between_worlds (λ p v b q y c. AloneCause p v b cpu a q y c) w guest (sv s) (sv t) (dv d) (dv e) h below (rw world.disks below) is_host is_disk serves cause in
       record {
         step = sym (ap (λ (q : AloneOutcome × WorldState). let out : Answer × WorldState = (AloneAnswer q.0, q.1) in out) x.steps);
         world = x.world;
         steps = step_by_step w guest cpu a (with_turn w guest h (sv t) (dv e)) x.steps (spelled _ _ _ _ w guest cpu h a (with_turn w guest h (sv t) (dv e)) cause x.steps x.stops);
+        caused = subst (λ (q : AloneOutcome × WorldState). AloneIsCaused w q.1 guest cpu q.0) (sym x.steps) caused;
         reached = x.reached;
         lacks = x.lacks;
         plan = x.plan;

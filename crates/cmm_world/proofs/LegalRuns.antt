@@ -16,7 +16,7 @@ use Rattle.cmm_world.specs.WorldView.{WorldView, opening_view, plans_of}
 use Rattle.cmm_world.specs.WorldFit.{WorldFit, KeepsWorld}
 use Rattle.cmm_world.specs.Failures.{AreCounted, WorldCounted}
 use Rattle.cmm_world.specs.Run.{world_after, run_of}
-use Rattle.cmm_world.specs.Steps.{IsStepByStep, AtEach}
+use Rattle.cmm_world.specs.Steps.{IsStepByStep, TakesNoneAgain, AtEach}
 use Rattle.cmm_world.specs.Reached.{ReachesPages}
 use Rattle.cmm_world.specs.Lacking.{LacksRightly}
 use Rattle.cmm_world.specs.Headline.{IsLegalRun}
@@ -38,9 +38,9 @@ counted_planned g d pager legal counted =
 
 -- a world that played the schedule, kept what it must, and did each event as its single steps
 legal_run : (plan : Scenario) (v : WorldView) → v.state ≡ (run_of plan).1 → KeepsWorld (opening_view plan) v → AtEach IsStepByStep (opening_world plan) plan.schedule
-    → AtEach ReachesPages (opening_world plan) plan.schedule → AtEach LacksRightly (opening_world plan) plan.schedule → IsLegalRun plan
+    → AtEach TakesNoneAgain (opening_world plan) plan.schedule → AtEach ReachesPages (opening_world plan) plan.schedule → AtEach LacksRightly (opening_world plan) plan.schedule → IsLegalRun plan
 unfolding opening_world
-legal_run plan v state keeps steps reached lacks =
+legal_run plan v state keeps steps again reached lacks =
     let x = (run_of plan).1 in
     let plans : plans_of x ≡ plan.guests = ap plans_of (sym state) ∙ keeps.plans ∙ opening_plans plan.guests in
     let fit : WorldFit x = subst WorldFit state keeps.fit in
@@ -50,6 +50,7 @@ legal_run plan v state keeps steps reached lacks =
       plans = plans;
       legal = λ guest below. (fit guest (rw count below)).journal.legal;
       steps = steps;
+      again = again;
       reached = reached;
       lacks = lacks;
       faults = λ guest below. faults_few x guest fit (rw count below);
@@ -64,10 +65,11 @@ from_opening plan v events P opening schedule each =
 
 -- the same, as a replay leaves it
 pub legal_replay : (plan : Scenario) (v x : WorldView) (events : List Event) → v ≡ opening_view plan → events ≡ plan.schedule → x.state ≡ world_after v.state events → KeepsWorld v x
-    → AtEach IsStepByStep v.state events → AtEach ReachesPages v.state events → AtEach LacksRightly v.state events → IsLegalRun plan
-legal_replay plan v x events opening schedule state keeps steps reached lacks =
+    → AtEach IsStepByStep v.state events → AtEach TakesNoneAgain v.state events → AtEach ReachesPages v.state events → AtEach LacksRightly v.state events → IsLegalRun plan
+legal_replay plan v x events opening schedule state keeps steps again reached lacks =
     legal_run plan x (state ∙ ap (λ (q : WorldView). world_after q.state events) opening ∙ ap (world_after (opening_world plan)) schedule)
     (subst (λ (q : WorldView). KeepsWorld q x) opening keeps)
     (from_opening plan v events IsStepByStep opening schedule steps)
+    (from_opening plan v events TakesNoneAgain opening schedule again)
     (from_opening plan v events ReachesPages opening schedule reached)
     (from_opening plan v events LacksRightly opening schedule lacks)

@@ -7,6 +7,7 @@ pub mod Reaching
 pub mod EntryTurns
 pub mod TurnRuns
 pub mod AloneRuns
+pub mod NeverAgain
 pub mod Playing
 pub mod OpeningWorld
 pub mod Events

@@ -13,14 +13,14 @@ use Rattle.cmm_types.specs.declared.turn.Turn.{Turn}
 use Rattle.cmm_types.specs.declared.turn.Turn.TheVariants.{Moved, Finished, Waits, Again, Idle}
 use Rattle.cmm_flat.specs.Legal.{command_of, process_of}
 use Rattle.cmm_io.specs.DiskCall.{DiskCall}
-use Rattle.cmm_io.specs.DiskState.{DiskState, DiskStep, disk_view}
+use Rattle.cmm_io.specs.DiskState.{DiskState, DiskStep, disk_view, opened}
 use Rattle.cmm_io.specs.DiskView.{DiskView, DiskFollows}
 use Rattle.essa_state.specs.declared.fields.Fields.{Fields}
 use Rattle.essa_state.specs.StateWord.{is_resident, opening_word}
 use Rattle.essa_state.specs.PageValue.{is_lost, may_lose}
 use Rattle.cmm_storage.specs.StorageCall.{StorageCall}
 use Rattle.cmm_storage.specs.StorageView.{StorageView, Follows}
-use Rattle.cmm_storage.specs.Program.{Does}
+use Rattle.cmm_storage.specs.Program.{Program, Does}
 use Rattle.cmm_storage.specs.Views.{Seen, does_seen, page_called}
 use Rattle.host_plain.specs.HostState.{HostState, HostStep, Leaves, host_view, host_word, served, value_of, pages_of, first_place}
 use Rattle.guest_rules.specs.declared.parts.Parts.{Parts}
@@ -37,6 +37,7 @@ use Rattle.cmm_world.specs.WorldState.{WorldState, guest_at, disk_at}
 use Rattle.cmm_world.specs.WorldFit.{IsWorld, view_of}
 use Rattle.cmm_world.specs.Run.{turn_step, turned}
 use Rattle.cmm_world.specs.Steps.{NoWrongDiscards}
+use Rattle.cmm_world.specs.Caused.{TurnIsCaused}
 use Rattle.cmm_world.specs.Reached.{HasReached, WasReached, Enters, world_word}
 use Rattle.cmm_world.specs.Lacking.{IsOutOfPages, LacksPages}
 use Rattle.cmm_world.proofs.ExecRuns.{does_exec}
@@ -52,6 +53,22 @@ with_turn w guest g k e = record { guests = slice_set w.guests guest g; disks = 
 -- a host that serves the guest already
 pub served_same : (k : HostState) (guest : ℕ) → k.guest ≡ guest → served k guest ≡ k
 served_same k guest same = ap (λ q. served k q) (sym same)
+
+-- what relates a guest, its pages and its disk before and after its calls relates them in the worlds before and after
+pub between_worlds : (Relates : GuestState → StorageView → DiskView → GuestState → StorageView → DiskView → Type 0) (w : WorldState) (guest : ℕ) (s k : HostState) (d e : DiskState) (h : GuestState)
+    → guest < length w.guests → guest < length w.disks → s ≡ served w.host guest → d ≡ disk_at w guest → k.guest ≡ guest
+    → Relates (guest_at w guest) (host_view s) (disk_view d) h (host_view k) (disk_view e)
+    → Relates (guest_at w guest) (view_of w guest) (disk_view (disk_at w guest)) (guest_at (with_turn w guest h k e) guest) (view_of (with_turn w guest h k e) guest)
+    (disk_view (disk_at (with_turn w guest h k e) guest))
+between_worlds Relates w guest s k d e h below has_disk is_host is_disk serves related =
+    let x = with_turn w guest h k e in
+    let before = Relates (guest_at w guest) (view_of w guest) (disk_view (disk_at w guest)) in
+    let first : before h (host_view k) (disk_view e) =
+    subst (λ (q : HostState). Relates (guest_at w guest) (host_view q) (disk_view (disk_at w guest)) h (host_view k) (disk_view e)) is_host
+    (subst (λ (q : DiskState). Relates (guest_at w guest) (host_view s) (disk_view q) h (host_view k) (disk_view e)) is_disk related) in
+    subst (λ (q : GuestState). before q (view_of x guest) (disk_view (disk_at x guest))) (sym (get_or-set_same w.guests guest h (opening_guest no_plan) below))
+    (subst (λ (q : HostState). before h (host_view q) (disk_view (disk_at x guest))) (sym (served_same k guest serves))
+    (subst (λ (q : DiskState). before h (host_view k) (disk_view q)) (sym (get_or-set_same w.disks guest e (opened [] 0 []) has_disk)) first))
 
 -- a guest's pages are discarded only where they may be
 abbrev NoWrongAt : HostState → HostState → ℕ → Type 0
@@ -249,6 +266,7 @@ pub record AfterTurn (w : WorldState) (guest cpu : ℕ) (h : GuestState) (r : Tu
   pub step : turn_step w guest cpu ≡ (r, with_turn w guest h k e)
   pub world : IsWorld (with_turn w guest h k e)
   pub discards : NoWrongDiscards w (with_turn w guest h k e)
+  pub caused : TurnIsCaused w (with_turn w guest h k e) guest cpu r
   pub reached : HasReached w (with_turn w guest h k e)
   pub lacks : LacksPages w (with_turn w guest h k e)
   pub moved : r ≡ Moved → EntersUnmaps w (with_turn w guest h k e)
@@ -266,10 +284,10 @@ module _ {S D : Type 0} (ss : S → StorageCall → S → Type 0) (ds : D → Di
       → Seen {A = GuestState × Turn} (turn g cpu) (host_view (sv s)) (disk_view (dv d)) (h, r) (host_view (sv t)) (disk_view (dv e))
   seen g cpu s d h r t e run = does_seen ss ds (λ q. host_view (sv q)) (λ q. disk_view (dv q)) sf df (turn g cpu) s d (h, r) t e run
 
-  keeps : (g : GuestState) (cpu : ℕ) (s : S) (d : D) (h : GuestState) (r : Turn) (t : S) (e : D) → Does ss ds (turn g cpu) s d (h, r) t e → KeepsOthers (sv s) (sv t)
-  keeps g cpu s d h r t e run =
+  pub run_keeps : {A : Type 0} (p : Program A) (s : S) (d : D) (a : A) (t : S) (e : D) → Does ss ds p s d a t e → KeepsOthers (sv s) (sv t)
+  run_keeps p s d a t e run =
       storage_carried ss ds (λ s t. KeepsOthers (sv s) (sv t)) (λ s t same. KeepsOthers-same (sv s) (sv t) (ap sv same)) (λ s m t. KeepsOthers-trans (sv s) (sv m) (sv t))
-      (λ s call t q. keeps_others (sv s) (page_called call) (sv t) (sl s call t q)) (turn g cpu) s d (h, r) t e run
+      (λ s call t q. keeps_others (sv s) (page_called call) (sv t) (sl s call t q)) p s d a t e run
 
   -- the page of a load or a store that the guest's turn entered
   turn_reached : (w : WorldState) (guest cpu : ℕ) (s : S) (d : D) (h : GuestState) (r : Turn) (t : S) (e : D) (op : Op) (number off : ℕ) (writes : Bool) (entry : Entry) → guest < length w.guests
@@ -296,6 +314,7 @@ module _ {S D : Type 0} (ss : S → StorageCall → S → Type 0) (ds : D → Di
     step = ap (turned w guest) (sym (does_exec ss ds sv dv sm dm (turn g cpu) s d (h, r) t e run ∙ rw (is_host, is_disk) refl));
     world = kept_turn w guest h (sv t) (dv e) world below kept fit'.hints.none_held fit' (counted_turn w guest h (sv t) (dv e) world below kept plan failures plans);
     discards = discards_turn w guest h (sv t) (dv e) world kept own;
+    caused = between_worlds (λ p v b q y c. TurnCause p v b cpu r q y c) w guest (sv s) (sv t) (dv d) (dv e) h below (rw world.disks below) is_host is_disk kept.serves cause;
     reached = record {
       loads = λ i c n number off len bytes got. reached i (record { cpu = c; k = n; op = Load number off len; reply = Bytes bytes }) (Load number off len) number off false
           (load_mapped ss ds sv sm sl g cpu number off len) refl tt got;
@@ -346,7 +365,7 @@ module _ {S D : Type 0} (ss : S → StorageCall → S → Type 0) (ds : D → Di
       fit' = Fit-turn g cpu _ _ h r _ _ fit has_cpu ran
 
       kept : KeepsOthers (served w.host guest) (sv t)
-      kept = subst (λ q. KeepsOthers q (sv t)) is_host (keeps g cpu s d h r t e run)
+      kept = subst (λ q. KeepsOthers q (sv t)) is_host (run_keeps (turn g cpu) s d (h, r) t e run)
 
       own : NoWrongDiscard (view_of w guest) (host_view (sv t))
       own = subst (λ (q : HostState). NoWrongDiscard (host_view q) (host_view (sv t))) is_host (Discards-turn g cpu _ _ h r _ _ fit has_cpu ran)

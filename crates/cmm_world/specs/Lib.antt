@@ -5,6 +5,7 @@ pub mod Failures
 pub mod WorldView
 pub mod WorldFit
 pub mod Steps
+pub mod Caused
 pub mod Reached
 pub mod Lacking
 pub mod Played

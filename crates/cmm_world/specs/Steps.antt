@@ -1,10 +1,11 @@
 -- An event as single steps, and that none of them discards wrongly. The turns of a processor that goes on alone are steps of their own.
-use Rattle.std.specs.Prelude.{◌≡◌, ◌⊎◌, ◌<◌, ℕ, ◌+◌, ◌-◌, ◌++◌, List, [], ◌∷◌, length, replicate, true}
+use Rattle.std.specs.Prelude.{◌≡◌, ◌≢◌, ◌⊎◌, ◌<◌, ℕ, ◌+◌, ◌-◌, ◌++◌, List, [], ◌∷◌, length, replicate, true}
 use Rattle.cmm_types.specs.declared.event.Event.{Event}
 use Rattle.cmm_types.specs.declared.event.Event.TheVariants.{Cpu, Alone, Host, Reclaim}
 use Rattle.cmm_types.specs.declared.event.Answer.{Answer}
 use Rattle.cmm_types.specs.declared.event.Answer.TheVariants.{Turn, Alone as AloneAnswer, HostDone, HostRefused, HostPaging, Reclaimed}
-use Rattle.cmm_types.specs.declared.turn.Turn.TheVariants.{Moved, Finished as TurnFinished, Waits as TurnWaits, Idle as TurnIdle}
+use Rattle.cmm_types.specs.declared.turn.Turn.TheVariants.{Moved, Finished as TurnFinished, Waits as TurnWaits, Again, Idle as TurnIdle}
+use Rattle.cmm_types.specs.declared.turn.Why.{Why}
 use Rattle.cmm_types.specs.declared.turn.Alone.{Alone as AloneOutcome}
 use Rattle.cmm_types.specs.declared.turn.Alone.TheVariants.{Finished, Waits, Idle}
 use Rattle.essa_state.specs.PageValue.{is_lost, may_lose}
@@ -51,6 +52,10 @@ pub record IsStepByStep (w : WorldState) (event : Event) : Type 0 where
   pub answers : answers_of w (steps_of w event) ≡ step_answers (world_step w event).0
   pub world : world_after w (steps_of w event) ≡ (world_step w event).1
   pub discards : NoStepDiscardsWrongly w (steps_of w event)
+
+-- an event isn't answered by a turn that has to be taken again
+abbrev pub TakesNoneAgain : WorldState → Event → Type 0
+TakesNoneAgain w event = (why : Why) → (world_step w event).0 ≢ Turn (Again why)
 
 -- a fact of each event of a schedule, and of the world before it
 abbrev pub AtEach : (WorldState → Event → Type 0) → WorldState → List Event → Type 0

@@ -9,7 +9,8 @@ ghost use Rattle.cmm_world.specs.WorldView.{WorldView, opening_view, plans_of, w
 ghost use Rattle.cmm_world.specs.WorldFit.{WorldFit, KeepsWorld};
 ghost use Rattle.cmm_world.specs.Failures.{WorldCounted};
 ghost use Rattle.cmm_world.specs.Run.{applied_answer, answers_of, world_after};
-ghost use Rattle.cmm_world.specs.Steps.{IsStepByStep, AtEach};
+ghost use Rattle.cmm_world.specs.Steps.{IsStepByStep, TakesNoneAgain, AtEach};
+ghost use Rattle.cmm_world.specs.Caused.{IsCaused};
 ghost use Rattle.cmm_world.specs.Reached.{ReachesPages};
 ghost use Rattle.cmm_world.specs.Lacking.{LacksRightly};
 ghost use Rattle.cmm_world.specs.Played.{PlaysEvent};
@@ -91,6 +92,12 @@ impl World {
 
         // Each event is its single steps, none of which discards wrongly.
         ensures steps { AtEach IsStepByStep self.old.state events.now }
+
+        // Each turn, and each processor that went on alone, answered so for its cause.
+        ensures causes { AtEach IsCaused self.old.state events.now }
+
+        // No turn has to be taken again.
+        ensures again { AtEach TakesNoneAgain self.old.state events.now }
 
         // Each load and store that was neither refused nor failed has reached its page.
         ensures reached { AtEach ReachesPages self.old.state events.now }

@@ -53,4 +53,4 @@ returns c =
     let events = c.self.inside.events in
     let one : step_answers (answer c) ≡ answer c ∷ [] = subst (λ a. step_answers a ≡ a ∷ []) (sym c.applied_answer.ensures) (move_answered c.apply.result) in
     subst (λ (v : WorldView). PlaysEvent v (event c) (answer c) (seen_as (made c) answers events)) c.self.view_is
-    (plays_moves (inside c) answers events (event c) (answer c) c.apply.new.self (step c) refl one c.self.invariant.0 (moves c))
+    (plays_moves (inside c) answers events (event c) (answer c) c.apply.new.self (step c) refl one (tt {0}) c.self.invariant.0 (moves c))

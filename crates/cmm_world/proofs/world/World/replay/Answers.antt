@@ -3,7 +3,7 @@ use Rattle.std.proofs.lemmas.List.{drop_all}
 use Rattle.cmm_types.specs.declared.event.Event.{Event}
 use Rattle.cmm_world.specs.WorldState.{WorldState}
 use Rattle.cmm_world.specs.Run.{world_after}
-use Rattle.cmm_world.specs.Steps.{IsStepByStep, AtEach}
+use Rattle.cmm_world.specs.Steps.{IsStepByStep, TakesNoneAgain, AtEach}
 use Rattle.cmm_world.specs.Reached.{ReachesPages}
 use Rattle.cmm_world.specs.Lacking.{LacksRightly}
 use Rattle.cmm_world.proofs.LegalRuns.{legal_replay}
@@ -21,4 +21,4 @@ pub returns-clause-legal : goal.returns-clause-legal
 returns-clause-legal c plan opening schedule =
     let left = c.loop-event.invariant in
     legal_replay plan c.args.self.now c.loop-event.self c.args.events.now opening schedule (sym (ap (world_after c.loop-event.self.state) (none_left c)) ∙ left.rest) left.kept
-    (left.steps (each_left c IsStepByStep)) (left.reached (each_left c ReachesPages)) (left.lacks (each_left c LacksRightly))
+    (left.steps (each_left c IsStepByStep)) (left.again (each_left c TakesNoneAgain)) (left.reached (each_left c ReachesPages)) (left.lacks (each_left c LacksRightly))
